@@ -1,0 +1,70 @@
+-- Saved states that are sound: document 01's list, condition by condition, as a test.
+use Prim.Native.Nat.{ℕ, _+_, _^_}
+use mathlib.Core.Bool.{Bool, true, false, cond, not, _&&_, _||_}
+use mathlib.Core.List.{List, [], _∷_}
+use lib.Dec.{eqb, leb, ltb}
+use lib.ListN.{getD, length}
+use Rattle.rules.specs.Line.{at, count, empty, every, neighbours, below, one-if}
+use Rattle.rules.specs.Machine.{Machine, act, tasks, created, declared, holding}
+
+-- how often t waits
+abbrev pub waits : ℕ → List (List ℕ) → ℕ
+waits t [] = 0
+waits t (q ∷ l) = count t q + waits t l
+
+-- how often t stands in ready, delayed and waiting together
+abbrev pub places : Machine → ℕ → ℕ
+places m t = count t (m .ready) + count t (tasks (m .delay)) + waits t (m .queue)
+
+-- tasks 0..31, objects 0..7; the clock and delay times run over 0..2^64-1
+abbrev pub tables-sized : Machine → Bool
+tables-sized m = eqb (length (m .base)) 32 && eqb (length (m .held)) 32 && eqb (length (m .way)) 32 && eqb (length (m .ceiling)) 8 && eqb (length (m .queue)) 8
+
+abbrev pub in-time : Machine → Bool
+in-time m = ltb (m .clock) (2 ^ 64) && every (λ e. ltb (e .0) (2 ^ 64)) (m .delay)
+
+-- task 0 is created with base 0, ready, holding nothing (created it always is)
+abbrev pub idle-ready : Machine → Bool
+idle-ready m = eqb (at (m .base) 0) 0 && leb 1 (count 0 (m .ready)) && eqb (at (m .held) 0) 0
+
+-- each created task stands in exactly one of ready, delayed, waiting, and once there; no other task stands anywhere
+abbrev pub tasks-only : List ℕ → Bool
+tasks-only l = every (λ t. ltb t 32) l
+
+abbrev pub stand-once : Machine → Bool
+stand-once m =
+    below 32 (λ t. eqb (places m t) (one-if (created m t))) && tasks-only (m .ready) && tasks-only (tasks (m .delay)) && every tasks-only (m .queue)
+
+-- both lines are in order
+abbrev pub in-order : Machine → Bool
+in-order m = neighbours (λ a b. leb (act m b) (act m a)) (m .ready) && neighbours (λ e f. leb (e .0) (f .0)) (m .delay)
+
+-- bases and ceilings are in range: 1..15, and 0 for what is not there, as task 0 and object 0
+abbrev pub in-range : Machine → Bool
+in-range m = every (λ p. leb p 15) (m .base) && every (λ p. leb p 15) (m .ceiling) && eqb (at (m .ceiling) 0) 0
+
+-- a task holds at most one object, in one way
+abbrev pub hold-one : Machine → Bool
+hold-one m = below 32 (λ t. cond (holding m t) (leb 1 (at (m .way) t) && leb (at (m .way) t) 2) (eqb (at (m .way) t) 0))
+
+-- each object is held by at most one task and waited on by at most one
+abbrev pub one-each : Machine → Bool
+one-each m = below 8 (λ o. eqb o 0 || leb (count o (m .held)) 1) && every (λ q. leb (length q) 1) (m .queue)
+
+-- a holder is ready; holder and waiter have base at most the ceiling of a declared object
+abbrev pub admits : Machine → ℕ → ℕ → Bool
+admits m o t = declared m o && leb (at (m .base) t) (at (m .ceiling) o)
+
+abbrev pub holders-ready : Machine → Bool
+holders-ready m = below 32 (λ t. not (holding m t) || leb 1 (count t (m .ready)))
+
+abbrev pub admitted : Machine → Bool
+admitted m = below 32 (λ t. not (holding m t) || admits m (at (m .held) t) t) && below 8 (λ o. every (admits m o) (getD (m .queue) o []))
+
+-- before Start the clock is 0 and nothing is delayed, waiting or held
+abbrev pub calm : Machine → Bool
+calm m = m .started || eqb (m .clock) 0 && empty (m .delay) && every (λ q. empty q) (m .queue) && every (λ o. eqb o 0) (m .held)
+
+unfoldable pub sound : Machine → Bool
+sound m =
+    tables-sized m && in-time m && idle-ready m && stand-once m && in-order m && in-range m && hold-one m && one-each m && holders-ready m && admitted m && calm m

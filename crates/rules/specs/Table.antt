@@ -1,0 +1,138 @@
+-- The op table of document 01: what each command does when it is accepted.
+-- A row says what is asked for, as an Effect; one function, carry, does it.
+use Prim.Native.Nat.{ℕ, _+_}
+use mathlib.Core.Bool.{Bool, true, false, cond, not, _&&_}
+use mathlib.Core.List.{List, [], _∷_, _++_}
+use lib.Dec.{eqb, leb, ltb}
+use lib.ListN.{getD, set}
+use Rattle.rules.specs.Line.{at, front, tail, empty, first-alone, at-tail, at-head, by-time}
+use Rattle.rules.specs.Machine.{Machine, Command, act, runner, tasks, for-body, for-entry}
+
+-- Where the runner goes.
+pub data Out : Type 0 where
+  -- it stays where it is
+  same : Out
+  -- it holds the object, in that way, and stays where it is: it is the front, and its active priority only rises
+  take : ℕ → ℕ → Out
+  -- to the tail of its base
+  yield : Out
+  -- it holds nothing, and goes to the head of its base
+  close : Out
+  -- into the delay line, until that time
+  sleep : ℕ → Out
+  -- out of the line, to wait on the object
+  await : ℕ → Out
+
+-- Who is released.
+pub data Rel : Type 0 where
+  none : Rel
+  -- the first of the delay line
+  due : Rel
+  -- the first that waits on the object: nobody, if none does
+  serve : ℕ → Rel
+
+pub data Effect : Type 0 where
+  -- of what is no op
+  nothing : Effect
+  -- a task and its base; an object and its ceiling
+  creates : ℕ → ℕ → Effect
+  declares : ℕ → ℕ → Effect
+  begins : Effect
+  -- where the runner goes, who is released, and by how much the clock grows
+  moves : Out → Rel → ℕ → Effect
+
+-- the first delay entry's time is at most the clock
+abbrev pub first-due : Machine → Bool
+first-due m = not (empty (m .delay)) && leb (front (0, 0) (m .delay) .0) (m .clock)
+
+-- The table: a row for each op 1..11, and no other op has one.
+abbrev pub effect : Machine → Command → Effect
+effect m c =
+    getD
+    (nothing ∷
+    -- 1 create a=task b=priority: created, placed at the tail of its base
+    creates (c .a) (c .b) ∷
+    -- 2 object a=object b=ceiling: declared
+    declares (c .a) (c .b) ∷
+    -- 3 start: the front runs
+    begins ∷
+    -- 4 delay value=time: time above the clock: into the delay line. Otherwise: the runner goes to the tail of its base and stays ready
+    moves (cond (ltb (m .clock) (c .value)) (sleep (c .value)) yield) none 0 ∷
+    -- 5 wake: the first delay entry, if its time is at most the clock, goes to the tail of its base and is the released task;
+    -- otherwise nothing changes
+    moves same (cond (first-due m) due none) 0 ∷
+    -- 6 advance value=ticks: the clock grows by that much; 0 is allowed
+    moves same none (c .value) ∷
+    -- 7 open a=object: the runner holds it, for a procedure or function
+    moves (take (c .a) for-body) none 0 ∷
+    -- 8 closep a=object b=barrier: if b is 1 and a task waits on the object, it goes to the tail of its base and is released;
+    -- then the runner holds nothing and goes to the head of its base
+    moves close (cond (eqb (c .b) 1) (serve (c .a)) none) 0 ∷
+    -- 9 closef a=object: the runner holds nothing and goes to the head of its base
+    moves close none 0 ∷
+    -- 10 entry a=object b=barrier: b 1: the runner holds it, for an entry, whoever waits.
+    -- b 0: the runner leaves the line and waits on the object
+    moves (cond (eqb (c .b) 1) (take (c .a) for-entry) (await (c .a))) none 0 ∷
+    -- 11 done a=object: ends an entry, as closef; a waiting task is not looked at
+    moves close none 0 ∷ [])
+    (c .op) nothing
+
+-- The machine with other set-up, with other lines, with other hands, and some ticks later.
+abbrev pub with-set-up : Machine → List ℕ → List ℕ → Bool → Machine
+with-set-up m base ceiling started =
+    record { base = base; ceiling = ceiling; held = m .held; way = m .way; queue = m .queue; ready = m .ready; delay = m .delay; clock = m .clock; started = started }
+
+abbrev pub with-lines : Machine → List ℕ → List (ℕ × ℕ) → List (List ℕ) → Machine
+with-lines m ready delay queue =
+    record { base = m .base; ceiling = m .ceiling; held = m .held; way = m .way; queue = queue; ready = ready; delay = delay; clock = m .clock; started = m .started }
+
+abbrev pub with-hands : Machine → List ℕ → List ℕ → Machine
+with-hands m held way =
+    record { base = m .base; ceiling = m .ceiling; held = held; way = way; queue = m .queue; ready = m .ready; delay = m .delay; clock = m .clock; started = m .started }
+
+abbrev pub later : Machine → ℕ → Machine
+later m n =
+    record { base = m .base; ceiling = m .ceiling; held = m .held; way = m .way; queue = m .queue; ready = m .ready; delay = m .delay; clock = m .clock + n; started = m .started }
+
+-- The released tasks, at most one of them. Each goes to the tail of its base.
+abbrev pub freed : Rel → Machine → List ℕ
+freed none m = []
+freed due m = first-alone (tasks (m .delay))
+freed (serve o) m = first-alone (getD (m .queue) o [])
+
+abbrev pub enter : Machine → List ℕ → List ℕ → List ℕ
+enter m [] l = l
+enter m (t ∷ ts) l = enter m ts (at-tail (act m) (at (m .base) t) t l)
+
+unfoldable pub release : Rel → Machine → Machine
+release none m = m
+release due m = with-lines m (enter m (freed due m) (m .ready)) (tail (m .delay)) (m .queue)
+release (serve o) m = with-lines m (enter m (freed (serve o) m) (m .ready)) (m .delay) (set (m .queue) o (tail (getD (m .queue) o [])))
+
+-- Then the runner, the front of the line, goes its way. It is placed by the active priorities that it leaves behind.
+unfoldable pub leave : Out → Machine → Machine
+leave same m = m
+leave (take o w) m = with-hands m (set (m .held) (runner m) o) (set (m .way) (runner m) w)
+leave yield m = with-lines m (at-tail (act m) (at (m .base) (runner m)) (runner m) (tail (m .ready))) (m .delay) (m .queue)
+leave close m =
+    let n = with-hands m (set (m .held) (runner m) 0) (set (m .way) (runner m) 0) in
+    with-lines n (at-head (act n) (at (m .base) (runner m)) (runner m) (tail (m .ready))) (m .delay) (m .queue)
+leave (sleep d) m = with-lines m (tail (m .ready)) (by-time (d, runner m) (m .delay)) (m .queue)
+leave (await o) m = with-lines m (tail (m .ready)) (m .delay) (set (m .queue) o (getD (m .queue) o [] ++ (runner m ∷ [])))
+
+unfoldable pub carry : Machine → Effect → Machine
+carry m nothing = m
+carry m (creates t p) =
+    let n = with-set-up m (set (m .base) t p) (m .ceiling) (m .started) in
+    with-lines n (at-tail (act n) p t (m .ready)) (m .delay) (m .queue)
+carry m (declares o p) = with-set-up m (m .base) (set (m .ceiling) o p) (m .started)
+carry m begins = with-set-up m (m .base) (m .ceiling) true
+carry m (moves out rel n) = later (leave out (release rel m)) n
+
+-- the task that a row releases, 0 for nobody
+abbrev pub freed-by : Effect → Machine → ℕ
+freed-by nothing m = 0
+freed-by (creates t p) m = 0
+freed-by (declares o p) m = 0
+freed-by begins m = 0
+freed-by (moves out rel n) m = front 0 (freed rel m)

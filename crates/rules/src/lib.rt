@@ -1,0 +1,1 @@
+// No code: specs/ holds document 01 as definitions, proofs/ what follows from them.
