@@ -1,1 +1,10 @@
 pub mod Walk
+pub mod Words
+pub mod Lists
+pub mod Tests
+pub mod Placing
+pub mod Sounds
+pub mod Kept
+pub mod SetUp
+pub mod Accepted
+pub mod Step

@@ -10,9 +10,7 @@ use Rattle.rules.specs.Table.{carry, leave, release}
 use Rattle.rules.specs.Refusals.{refusal}
 use Rattle.rules.specs.Sound.{sound}
 use Rattle.rules.specs.Run.{Answer, next, released, answer, run, answers}
-
-abbrev pub cmd : ℕ → ℕ → ℕ → ℕ → Command
-cmd op a b value = record { op = op; a = a; b = b; value = value }
+use Rattle.rules.proofs.Words.{cmd}
 
 abbrev row : ℕ → ℕ → ℕ → Answer
 row code running released = record { code = code; running = running; released = released }

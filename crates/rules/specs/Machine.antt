@@ -43,8 +43,9 @@ created m t = eqb t 0 || not (eqb (at (m .base) t) 0)
 abbrev pub declared : Machine → ℕ → Bool
 declared m o = not (eqb (at (m .ceiling) o) 0)
 
-abbrev pub holding : Machine → ℕ → Bool
-holding m t = not (eqb (at (m .held) t) 0)
+-- t holds nothing
+abbrev pub free : Machine → ℕ → Bool
+free m t = eqb (at (m .held) t) 0
 
 -- Active priority is the ceiling of the object held, else the base.
 abbrev pub active : List ℕ → List ℕ → List ℕ → ℕ → ℕ

@@ -6,7 +6,7 @@ use mathlib.Core.List.{List, [], _∷_}
 use lib.Dec.{eqb, leb, ltb}
 use lib.ListN.{getD}
 use Rattle.rules.specs.Line.{at, count, empty, within, among}
-use Rattle.rules.specs.Machine.{Machine, Command, created, declared, holding, runner, for-body, for-entry}
+use Rattle.rules.specs.Machine.{Machine, Command, created, declared, free, runner, for-body, for-entry}
 
 -- What an operand may be. A time has the 64 bits that every caller of ours has for a value.
 pub data Operand : Type 0 where
@@ -70,7 +70,7 @@ checks m c =
     -- 7 Idle: ops 4 and 7..11 while task 0 runs
     ((eqb (c .op) 4 || within 7 11 (c .op)) && eqb (runner m) 0, 7) ∷
     -- 8 Inside: ops 4, 7, 10 while the runner holds an object
-    (among (4 ∷ 7 ∷ 10 ∷ []) (c .op) && holding m (runner m), 8) ∷
+    (among (4 ∷ 7 ∷ 10 ∷ []) (c .op) && not (free m (runner m)), 8) ∷
     -- 9 Outside: closing an object the runner does not hold, or holds in the other way (8, 9 end an open; 11 ends an entry)
     (among (8 ∷ 9 ∷ []) (c .op) && not (holds-so m (c .a) for-body) || eqb (c .op) 11 && not (holds-so m (c .a) for-entry), 9) ∷
     -- 10 Ceiling: the runner's base is above the ceiling (of the object that 7 or 10 would take)

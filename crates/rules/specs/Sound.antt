@@ -4,8 +4,8 @@ use mathlib.Core.Bool.{Bool, true, false, cond, not, _&&_, _||_}
 use mathlib.Core.List.{List, [], _∷_}
 use lib.Dec.{eqb, leb, ltb}
 use lib.ListN.{getD, length}
-use Rattle.rules.specs.Line.{at, count, empty, every, neighbours, below, one-if}
-use Rattle.rules.specs.Machine.{Machine, act, tasks, created, declared, holding}
+use Rattle.rules.specs.Line.{at, count, empty, every, neighbours, below, within, one-if}
+use Rattle.rules.specs.Machine.{Machine, act, tasks, created, declared, free, for-body, for-entry}
 
 -- how often t waits
 abbrev pub waits : ℕ → List (List ℕ) → ℕ
@@ -25,41 +25,41 @@ in-time m = ltb (m .clock) (2 ^ 64) && every (λ e. ltb (e .0) (2 ^ 64)) (m .del
 
 -- task 0 is created with base 0, ready, holding nothing (created it always is)
 abbrev pub idle-ready : Machine → Bool
-idle-ready m = eqb (at (m .base) 0) 0 && leb 1 (count 0 (m .ready)) && eqb (at (m .held) 0) 0
+idle-ready m = eqb (at (m .base) 0) 0 && leb 1 (count 0 (m .ready)) && free m 0
 
 -- each created task stands in exactly one of ready, delayed, waiting, and once there; no other task stands anywhere
 abbrev pub tasks-only : List ℕ → Bool
 tasks-only l = every (λ t. ltb t 32) l
 
 abbrev pub stand-once : Machine → Bool
-stand-once m =
-    below 32 (λ t. eqb (places m t) (one-if (created m t))) && tasks-only (m .ready) && tasks-only (tasks (m .delay)) && every tasks-only (m .queue)
+stand-once m = below 32 (λ t. eqb (places m t) (one-if (created m t))) && tasks-only (m .ready) && tasks-only (tasks (m .delay)) && every tasks-only (m .queue)
 
 -- both lines are in order
 abbrev pub in-order : Machine → Bool
 in-order m = neighbours (λ a b. leb (act m b) (act m a)) (m .ready) && neighbours (λ e f. leb (e .0) (f .0)) (m .delay)
 
--- bases and ceilings are in range: 1..15, and 0 for what is not there, as task 0 and object 0
+-- bases and ceilings are in range: 1..15, with 0 for what is not there, as task 0 and object 0
 abbrev pub in-range : Machine → Bool
-in-range m = every (λ p. leb p 15) (m .base) && every (λ p. leb p 15) (m .ceiling) && eqb (at (m .ceiling) 0) 0
+in-range m = every (λ p. leb p 15) (m .base) && every (λ p. leb p 15) (m .ceiling) && not (declared m 0)
 
--- a task holds at most one object, in one way
+-- a task holds at most one object, and that in one of the two ways
 abbrev pub hold-one : Machine → Bool
-hold-one m = below 32 (λ t. cond (holding m t) (leb 1 (at (m .way) t) && leb (at (m .way) t) 2) (eqb (at (m .way) t) 0))
+hold-one m = below 32 (λ t. cond (free m t) (eqb (at (m .way) t) 0) (within for-body for-entry (at (m .way) t)))
 
 -- each object is held by at most one task and waited on by at most one
 abbrev pub one-each : Machine → Bool
 one-each m = below 8 (λ o. eqb o 0 || leb (count o (m .held)) 1) && every (λ q. leb (length q) 1) (m .queue)
 
--- a holder is ready; holder and waiter have base at most the ceiling of a declared object
+-- a holder is ready
+abbrev pub holders-ready : Machine → Bool
+holders-ready m = below 32 (λ t. free m t || leb 1 (count t (m .ready)))
+
+-- holder and waiter have base at most the ceiling of a declared object
 abbrev pub admits : Machine → ℕ → ℕ → Bool
 admits m o t = declared m o && leb (at (m .base) t) (at (m .ceiling) o)
 
-abbrev pub holders-ready : Machine → Bool
-holders-ready m = below 32 (λ t. not (holding m t) || leb 1 (count t (m .ready)))
-
-abbrev pub admitted : Machine → Bool
-admitted m = below 32 (λ t. not (holding m t) || admits m (at (m .held) t) t) && below 8 (λ o. every (admits m o) (getD (m .queue) o []))
+abbrev pub all-admitted : Machine → Bool
+all-admitted m = below 32 (λ t. free m t || admits m (at (m .held) t) t) && below 8 (λ o. every (admits m o) (getD (m .queue) o []))
 
 -- before Start the clock is 0 and nothing is delayed, waiting or held
 abbrev pub calm : Machine → Bool
@@ -67,4 +67,4 @@ calm m = m .started || eqb (m .clock) 0 && empty (m .delay) && every (λ q. empt
 
 unfoldable pub sound : Machine → Bool
 sound m =
-    tables-sized m && in-time m && idle-ready m && stand-once m && in-order m && in-range m && hold-one m && one-each m && holders-ready m && admitted m && calm m
+    tables-sized m && in-time m && idle-ready m && stand-once m && in-order m && in-range m && hold-one m && one-each m && holders-ready m && all-admitted m && calm m

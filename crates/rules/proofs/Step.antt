@@ -1,0 +1,110 @@
+-- The two ways of a step: refused, and nothing changes; or accepted, and an allowed row is carried out. So every step keeps a sound state
+-- sound, and every run from the fresh machine is through sound states. Assumes nothing.
+use Prim.Native.Nat.{ℕ, zero, suc, _+_, _≤_, _<_, _^_}
+use native.Mathlib.Omega.{arith}
+use mathlib.Core.Path.{_≡_, refl, sym, ap, _∙_}
+use mathlib.Core.Logic.{_≢_}
+use mathlib.Core.Bool.{Bool, true, false, cond, not, _&&_, true≢false}
+use mathlib.Core.List.{List, [], _∷_}
+use lib.Dec.{eqb}
+use borrow.Author.Tests.{eqb-true, eqb-false}
+use Rattle.rules.specs.Line.{below}
+use Rattle.rules.specs.Machine.{Machine, Command, fresh}
+use Rattle.rules.specs.Table.{Out, same, take, yield, close, sleep, await, Rel, none, due, serve, Effect, nothing, creates, declares, begins, moves, effect, release, leave, carry, freed-by}
+use Rattle.rules.specs.Refusals.{refusal}
+use Rattle.rules.specs.Sound.{sound}
+use Rattle.rules.specs.Run.{next, released, run}
+use Rattle.rules.proofs.Words.{wakes}
+use Rattle.rules.proofs.Sounds.{Sound, tests-sound}
+use Rattle.rules.proofs.Kept.{release-sound, leave-sound}
+use Rattle.rules.proofs.SetUp.{create-sound, declare-sound, timed-sound}
+use Rattle.rules.proofs.Accepted.{Allowed, allowed}
+
+-- Release and way out leave the clock alone, and a started machine started.
+release-clock : (rel : Rel) (m : Machine) → release rel m .clock ≡ m .clock
+unfolding release
+release-clock none m = refl
+release-clock due m = refl
+release-clock (serve o) m = refl
+
+leave-clock : (out : Out) (m : Machine) → leave out m .clock ≡ m .clock
+unfolding leave
+leave-clock same m = refl
+leave-clock (take o w) m = refl
+leave-clock yield m = refl
+leave-clock close m = refl
+leave-clock (sleep d) m = refl
+leave-clock (await o) m = refl
+
+pub release-started : (rel : Rel) (m : Machine) → release rel m .started ≡ m .started
+unfolding release
+release-started none m = refl
+release-started due m = refl
+release-started (serve o) m = refl
+
+pub leave-started : (out : Out) (m : Machine) → leave out m .started ≡ m .started
+unfolding leave
+leave-started same m = refl
+leave-started (take o w) m = refl
+leave-started yield m = refl
+leave-started close m = refl
+leave-started (sleep d) m = refl
+leave-started (await o) m = refl
+
+pub moved-clock : (out : Out) (rel : Rel) (m : Machine) → leave out (release rel m) .clock ≡ m .clock
+moved-clock out rel m = leave-clock out (release rel m) ∙ release-clock rel m
+
+pub moved-started : (out : Out) (rel : Rel) (m : Machine) → leave out (release rel m) .started ≡ m .started
+moved-started out rel m = leave-started out (release rel m) ∙ release-started rel m
+
+-- An allowed row leaves a sound state.
+pub carry-sound : (m : Machine) (s : Sound m) (e : Effect) → Allowed m e → Sound (carry m e)
+unfolding carry
+carry-sound m s nothing g = s
+carry-sound m s (creates t p) g = create-sound m s t p g
+carry-sound m s (declares o p) g = declare-sound m s o p g
+carry-sound m s begins g = timed-sound m s (m .clock) true (s .clock-fits) refl
+carry-sound m s (moves out rel n) g =
+    let n₁ = release-sound m s (g .on) rel in
+    let n₂ = leave-sound (release rel m) n₁ (release-started rel m ∙ g .on) out (g .leaves) in
+    timed-sound (leave out (release rel m)) n₂ (leave out (release rel m) .clock + n) (leave out (release rel m) .started) (rw (moved-clock out rel m) (g .in-time)) (moved-started out rel m ∙ g .on)
+
+-- The two ways of a step.
+pub data Step (m : Machine) (c : Command) : Type 0 where
+  kept : next m c ≡ m → released m c ≡ 0 → wakes m c ≡ false → Step m c
+  carried : next m c ≡ carry m (effect m c) → released m c ≡ freed-by (effect m c) m → wakes m c ≡ eqb (c .op) 5 → Allowed m (effect m c) → Step m c
+
+pub step : (m : Machine) → Sound m → (c : Command) → Step m c
+unfolding next released wakes
+step m s c = go (eqb (refusal m c) 0) refl
+  where
+    and-false : (b : Bool) → b && false ≡ false
+    and-false true = refl
+    and-false false = refl
+
+    and-true : (b : Bool) → b && true ≡ b
+    and-true true = refl
+    and-true false = refl
+
+    go : (b : Bool) → eqb (refusal m c) 0 ≡ b → Step m c
+    go true e = carried (rw e) (rw e) (rw e (and-true (eqb (c .op) 5))) (allowed m s c (eqb-true _ _ e))
+    go false e = kept (rw e) (rw e) (rw e (and-false (eqb (c .op) 5)))
+
+pub next-sound : (m : Machine) → Sound m → (c : Command) → Sound (next m c)
+next-sound m s c = go (step m s c)
+  where
+    go : Step m c → Sound (next m c)
+    go (kept e f w) = rw e s
+    go (carried e f w g) = rw e (carry-sound m s (effect m c) g)
+
+pub run-sound : (cs : List Command) (m : Machine) → Sound m → Sound (run m cs)
+unfolding run
+run-sound [] m s = s
+run-sound (c ∷ cs) m s = run-sound cs (next m c) (next-sound m s c)
+
+pub fresh-test : sound fresh ≡ true
+unfolding sound below
+fresh-test = refl
+
+pub fresh-sound : Sound fresh
+fresh-sound = tests-sound fresh .sure fresh-test

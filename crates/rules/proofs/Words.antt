@@ -1,0 +1,49 @@
+-- The words in which the theorems are stated, beside those of specs/.
+use Prim.Native.Nat.{ℕ, zero, suc, _+_, _≤_, _<_}
+use mathlib.Core.Path.{_≡_}
+use mathlib.Core.Logic.{_≢_}
+use mathlib.Core.Bool.{Bool, _&&_}
+use mathlib.Core.List.{List, [], _∷_}
+use lib.Dec.{eqb}
+use lib.ListN.{length, getD}
+use Rattle.rules.specs.Line.{at, one-if}
+use Rattle.rules.specs.Machine.{Machine, Command, act}
+use Rattle.rules.specs.Run.{accepts, next}
+
+module _ {A : Type 0} where
+  -- P of each entry
+  abbrev pub All : (A → Type 0) → List A → Type 0
+  All P [] = Unit {0}
+  All P (x ∷ l) = P x × All P l
+
+  -- R of each entry with each one behind it
+  abbrev pub Pairwise : (A → A → Type 0) → List A → Type 0
+  Pairwise R [] = Unit {0}
+  Pairwise R (x ∷ l) = All (R x) l × Pairwise R l
+
+-- the command with these numbers
+abbrev pub cmd : ℕ → ℕ → ℕ → ℕ → Command
+cmd op a b value = record { op = op; a = a; b = b; value = value }
+
+-- the states of a run, the first and the last among them: the moments
+unfoldable pub moments : Machine → List Command → List Machine
+moments m [] = m ∷ []
+moments m (c ∷ cs) = m ∷ moments (next m c) cs
+
+-- an accepted Wake (op 5, code 0), and how many of them a run has
+unfoldable pub wakes : Machine → Command → Bool
+wakes m c = eqb (c .op) 5 && accepts m c
+
+unfoldable pub wakes-in : Machine → List Command → ℕ
+wakes-in m [] = 0
+wakes-in m (c ∷ cs) = one-if (wakes m c) + wakes-in (next m c) cs
+
+-- task t stands at index r of the delay line, and its time is at most the clock
+pub record DueAt (m : Machine) (t r : ℕ) : Type 0 where
+  pub inside : r < length (m .delay)
+  pub task : getD (m .delay) r (0, 0) .1 ≡ t
+  pub due : getD (m .delay) r (0, 0) .0 ≤ m .clock
+
+-- where b holds an object, every task ahead of b in the ready line has a base above its ceiling, which is b's active priority
+unfoldable pub Clear : Machine → Type 0
+Clear m = Pairwise (λ a b. at (m .held) b ≢ 0 → act m b < at (m .base) a) (m .ready)
