@@ -8,3 +8,4 @@ pub mod Kept
 pub mod SetUp
 pub mod Accepted
 pub mod Step
+pub mod Wakes
