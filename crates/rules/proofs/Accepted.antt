@@ -9,8 +9,8 @@ use mathlib.Core.List.{List, [], _∷_}
 use lib.Dec.{eqb, leb, ltb}
 use lib.ListN.{getD}
 use borrow.Author.Tests.{eqb-true, eq-eqb, eqb-false, ne-eqb, ltb-true, ltb-false, leb-true, leb-false, le-ltb, not-false, not-true}
-use Rattle.rules.specs.Line.{at, within, front, tail, empty, first-alone, at-tail, count, one-if}
-use Rattle.rules.specs.Machine.{Machine, Command, act, runner, created, tasks}
+use Rattle.rules.specs.Line.{at, within, front, rest, empty, first-alone, at-tail, count, one-if}
+use Rattle.rules.specs.Machine.{Machine, Command, active, runner, created, tasks}
 use Rattle.rules.specs.Table.{Out, same, take, yield, close, sleep, await, Rel, none, due, serve, Effect, nothing, creates, declares, begins, moves, first-due, effect, freed, enter, release, leave, carry}
 use Rattle.rules.specs.Refusals.{checks, first-number, refusal, formed, fits, operands, holds-so}
 use Rattle.rules.proofs.Words.{All, Pairwise, cmd}
@@ -42,6 +42,8 @@ check-passed m c ok n = passed (checks m c) (omega arith) ok n
 pub record MayMove (m : Machine) (out : Out) (rel : Rel) (n : ℕ) : Type 0 where
   pub on : m .started ≡ true
   pub leaves : AllowedOut (release rel m) out
+  -- whoever is released does not come between the runner and its way out
+  pub in-front : (out ≡ same → ⊥) → runner (release rel m) ≡ runner m
   pub in-time : m .clock + n < 2 ^ 64
 
 abbrev pub Allowed : Machine → Effect → Type 0
@@ -55,21 +57,21 @@ within-true : (lo hi n : ℕ) → within lo hi n ≡ true → (lo ≤ n) × (n �
 within-true lo hi n e = let w = and-true (leb lo n) (leb n hi) e in (leb-true lo n (w .0), leb-true n hi (w .1))
 
 -- the runner stays in front of whoever is placed at most at its active priority
-front-enter : (m : Machine) (us l : List ℕ) → 1 ≤ count 0 l → All (λ u. at (m .base) u ≤ act m (front 0 l)) us → front 0 (enter m us l) ≡ front 0 l
+front-enter : (m : Machine) (us l : List ℕ) → 1 ≤ count 0 l → All (λ u. at (m .base) u ≤ active m (front 0 l)) us → front 0 (enter m us l) ≡ front 0 l
 front-enter m [] l k h = refl
 front-enter m (u ∷ us) [] k h = absurd (omega arith)
 front-enter m (u ∷ us) (x ∷ l) k h =
-    rw (le-ltb (act m x) (at (m .base) u) (h .0)) (front-enter m us (x ∷ at-tail (act m) (at (m .base) u) u l) (omega (arith, count-place 0 (λ y. ltb (act m y) (at (m .base) u)) u l)) (h .1))
+    rw (le-ltb (active m x) (at (m .base) u) (h .0)) (front-enter m us (x ∷ at-tail (active m) (at (m .base) u) u l) (omega (arith, count-place 0 (λ y. ltb (active m y) (at (m .base) u)) u l)) (h .1))
 
 module _ (m : Machine) (s : Sound m) where
   pub runner-stays : (o : ℕ) → at (m .held) (runner m) ≡ o → at (m .ceiling) o ≢ 0 → runner (release (serve o) m) ≡ runner m
   unfolding release
   runner-stays o e n = front-enter m (freed (serve o) m) (m .ready) (s .idle-there) (first-all (getD (m .queue) o []) (all-map (λ u w. omega (arith, w .1, top)) (getD (m .queue) o []) (s .waiter-admitted o (object-known m s o n))))
     where
-      top : act m (runner m) ≡ at (m .ceiling) o
+      top : active m (runner m) ≡ at (m .ceiling) o
       top = act-held m (runner m) (λ z. object-real m s o n (sym e ∙ z)) ∙ ap (at (m .ceiling)) e
 
-      first-all : (l : List ℕ) → All (λ u. at (m .base) u ≤ act m (runner m)) l → All (λ u. at (m .base) u ≤ act m (runner m)) (first-alone l)
+      first-all : (l : List ℕ) → All (λ u. at (m .base) u ≤ active m (runner m)) l → All (λ u. at (m .base) u ≤ active m (runner m)) (first-alone l)
       first-all [] h = tt
       first-all (x ∷ l) h = (h .0, tt)
 
@@ -101,6 +103,11 @@ module _ (m : Machine) (s : Sound m) where
       go [] e = refl
       go (x ∷ q) e = absurd (true≢false e)
 
+  closes-front : (o : ℕ) → not (not (eqb (at (m .ceiling) o) 0)) ≡ false → (w : ℕ) → not (holds-so m o w) ≡ false → (b : Bool) → runner (release (cond b (serve o) none) m) ≡ runner m
+  unfolding release
+  closes-front o h w q true = runner-stays o (eqb-true _ _ (and-true _ _ (not-false _ q) .0)) (is-declared o h)
+  closes-front o h w q false = refl
+
   enters : (o b : ℕ) → MayLeave m → Admits m o (runner m) → count o (m .held) ≡ 0 → leb b 1 ≡ true → eqb b 0 && not (empty (getD (m .queue) o [])) ≡ false → (x : Bool) → eqb b 1 ≡ x
       → AllowedOut m (cond x (take o 2) (await o))
   enters o b g a u l e true q = record { leaves = g; admits = a; unheld = u; in-one-way = (omega arith, omega arith) }
@@ -130,27 +137,28 @@ module _ (m : Machine) (s : Sound m) where
   by-op (suc (suc (suc (suc zero)))) a b v ok =
       let p = check-passed m (cmd 4 a b v) ok in
       let f = and-true (eqb a 0 && eqb b 0) (ltb v (2 ^ 64)) (not-false _ (p 4)) .1 in
-      record { on = not-false _ (p 2); leaves = delays v (leaves (p 7) (p 8)) f (ltb (m .clock) v) refl; in-time = still }
-  by-op (suc (suc (suc (suc (suc zero))))) a b v ok = record { on = not-false _ (check-passed m (cmd 5 a b v) ok 2); leaves = tt; in-time = still }
+      record { on = not-false _ (p 2); leaves = delays v (leaves (p 7) (p 8)) f (ltb (m .clock) v) refl; in-front = λ n. refl; in-time = still }
+  by-op (suc (suc (suc (suc (suc zero))))) a b v ok = record { on = not-false _ (check-passed m (cmd 5 a b v) ok 2); leaves = tt; in-front = λ n. absurd (n refl); in-time = still }
   by-op (suc (suc (suc (suc (suc (suc zero)))))) a b v ok =
       let p = check-passed m (cmd 6 a b v) ok in
-      record { on = not-false _ (p 2); leaves = tt; in-time = ltb-true _ _ (not-false _ (p 13)) }
+      record { on = not-false _ (p 2); leaves = tt; in-front = λ n. absurd (n refl); in-time = ltb-true _ _ (not-false _ (p 13)) }
   by-op (suc (suc (suc (suc (suc (suc (suc zero))))))) a b v ok =
       let p = check-passed m (cmd 7 a b v) ok in
-      record { on = not-false _ (p 2); leaves = record { leaves = leaves (p 7) (p 8); admits = (is-declared a (p 6), ltb-false _ _ (p 10)); unheld = (let z : count a (m .held) < 1 = leb-false _ _ (p 11) in omega arith); in-one-way = (omega arith, omega arith) }; in-time = still }
+      record { on = not-false _ (p 2); leaves = record { leaves = leaves (p 7) (p 8); admits = (is-declared a (p 6), ltb-false _ _ (p 10)); unheld = (let z : count a (m .held) < 1 = leb-false _ _ (p 11) in omega arith); in-one-way = (omega arith, omega arith) }; in-front = λ n. refl; in-time = still }
   by-op (suc (suc (suc (suc (suc (suc (suc (suc zero)))))))) a b v ok =
       let p = check-passed m (cmd 8 a b v) ok in
-      record { on = not-false _ (p 2); leaves = closes a (p 6) (p 7) 1 (or-false _ false (p 9) .0) (eqb b 1); in-time = still }
+      let k = closes-front a (p 6) 1 (or-false _ false (p 9) .0) (eqb b 1) in
+      record { on = not-false _ (p 2); leaves = λ z. eqb-false _ _ (p 7) (sym k ∙ z); in-front = λ n. k; in-time = still }
   by-op (suc (suc (suc (suc (suc (suc (suc (suc (suc zero))))))))) a b v ok =
       let p = check-passed m (cmd 9 a b v) ok in
-      record { on = not-false _ (p 2); leaves = eqb-false _ _ (p 7); in-time = still }
+      record { on = not-false _ (p 2); leaves = eqb-false _ _ (p 7); in-front = λ n. refl; in-time = still }
   by-op (suc (suc (suc (suc (suc (suc (suc (suc (suc (suc zero)))))))))) a b v ok =
       let p = check-passed m (cmd 10 a b v) ok in
       let f = and-true (within 1 7 a) (leb b 1) (and-true (within 1 7 a && leb b 1) (eqb v 0) (not-false _ (p 4)) .0) .1 in
-      record { on = not-false _ (p 2); leaves = enters a b (leaves (p 7) (p 8)) (is-declared a (p 6), ltb-false _ _ (p 10)) (let z : count a (m .held) < 1 = leb-false _ _ (p 11) in omega arith) f (p 12) (eqb b 1) refl; in-time = still }
+      record { on = not-false _ (p 2); leaves = enters a b (leaves (p 7) (p 8)) (is-declared a (p 6), ltb-false _ _ (p 10)) (let z : count a (m .held) < 1 = leb-false _ _ (p 11) in omega arith) f (p 12) (eqb b 1) refl; in-front = λ n. refl; in-time = still }
   by-op (suc (suc (suc (suc (suc (suc (suc (suc (suc (suc (suc zero))))))))))) a b v ok =
       let p = check-passed m (cmd 11 a b v) ok in
-      record { on = not-false _ (p 2); leaves = eqb-false _ _ (p 7); in-time = still }
+      record { on = not-false _ (p 2); leaves = eqb-false _ _ (p 7); in-front = λ n. refl; in-time = still }
   by-op (suc (suc (suc (suc (suc (suc (suc (suc (suc (suc (suc (suc op)))))))))))) a b v ok = tt
 
   pub allowed : (c : Command) → refusal m c ≡ 0 → Allowed m (effect m c)

@@ -10,13 +10,13 @@ use lib.Dec.{eqb, leb, ltb}
 use lib.ListN.{getD, set, length, length-set, List·getD-eq-default}
 use lib.Seq.{getD-set-other, getD-set-same}
 use borrow.Author.Tests.{eqb-true, eq-eqb, eqb-false, ne-eqb, ltb-true, ltb-false, le-ltb}
-use Rattle.rules.specs.Line.{at, front, tail, first-alone, place, at-tail, at-head, by-time, count, one-if}
-use Rattle.rules.specs.Machine.{Machine, active, act, tasks, created, declared, runner}
+use Rattle.rules.specs.Line.{at, front, rest, first-alone, place, at-tail, at-head, by-time, count, one-if}
+use Rattle.rules.specs.Machine.{Machine, active, tasks, created, declared, runner}
 use Rattle.rules.specs.Table.{Out, same, take, yield, close, sleep, await, Rel, none, due, serve, Effect, nothing, creates, declares, begins, moves, with-set-up, with-lines, with-hands, later, freed, enter, release, leave, carry}
-use Rattle.rules.specs.Sound.{places, waits}
+use Rattle.rules.specs.Sound.{standings, waits}
 use Rattle.rules.proofs.Words.{All, Pairwise}
-use Rattle.rules.proofs.Lists.{all-map, all-both, all-every, all-place, all-tail, all-at, all-set, pairwise-map, pairwise-tail, front-over, pairwise-front, set-either, tail-pairwise, tail-falls, count-place, count-tasks-place, one-self, count-absent, all-standing, standing, count-snoc, count-first, tasks-tail, count-set, waits-more, waits-fewer, waits-at, lt-or-ge, eq-or-ne}
-use Rattle.rules.proofs.Sounds.{Sound, Numbers, Hands, Admits, Calm, act-free, act-held, nowhere, once, known, based, rest, runner-there, runner-known, others, holder, not-ready, object-known, object-real}
+use Rattle.rules.proofs.Lists.{all-map, all-both, all-every, all-place, all-rest, all-at, all-set, pairwise-map, pairwise-rest, front-over, pairwise-front, set-either, tail-pairwise, tail-falls, count-place, count-tasks-place, one-self, count-absent, all-standing, standing, count-snoc, count-first, tasks-rest, count-set, waits-more, waits-fewer, waits-at, lt-or-ge, eq-or-ne}
+use Rattle.rules.proofs.Sounds.{Sound, Numbers, Hands, Admits, Calm, act-free, act-held, nowhere, once, known, based, front-and-rest, runner-there, runner-known, others, holder, not-ready, object-known, object-real}
 
 -- What a step that moves tasks may change, and has to show of it: what the tasks hold, and the three lines.
 pub record HandsKept (m : Machine) (held way : List ℕ) : Type 0 where
@@ -30,9 +30,9 @@ pub record HandsKept (m : Machine) (held way : List ℕ) : Type 0 where
 pub record LinesKept (m : Machine) (held ready : List ℕ) (delay : List (ℕ × ℕ)) (queue : List (List ℕ)) : Type 0 where
   pub queue-size : length queue ≡ 8
   pub times-fit : All (λ e. e .0 < 2 ^ 64) delay
-  pub same-places : (t : ℕ) → count t ready + count t (tasks delay) + waits t queue ≡ places m t
+  pub same-standings : (t : ℕ) → count t ready + count t (tasks delay) + waits t queue ≡ standings m t
   pub idle-there : 1 ≤ count 0 ready
-  pub ready-falls : Pairwise (λ a b. active (m .base) (m .ceiling) held b ≤ active (m .base) (m .ceiling) held a) ready
+  pub ready-falls : Pairwise (λ a b. active (with-hands m held (m .way)) b ≤ active (with-hands m held (m .way)) a) ready
   pub times-rise : Pairwise (λ e f. e .0 ≤ f .0) delay
   pub waiters : All (λ q. length q ≤ 1) queue
   pub holder-ready : (t : ℕ) → t < 32 → at held t ≢ 0 → 1 ≤ count t ready
@@ -60,10 +60,10 @@ module _ (m : Machine) (s : Sound m) (on : m .started ≡ true) where
     idle-base = s .idle-base;
     idle-there = l .idle-there;
     idle-free = h .idle-free;
-    stands = λ t k. l .same-places t ∙ s .stands t k;
-    ready-tasks = numbers ready (λ t k. omega (arith, l .same-places t, nowhere m s t k));
-    delay-tasks = numbers (tasks delay) (λ t k. omega (arith, l .same-places t, nowhere m s t k));
-    queue-tasks = numbers-wait queue (λ t k. omega (arith, l .same-places t, nowhere m s t k));
+    stands = λ t k. l .same-standings t ∙ s .stands t k;
+    ready-tasks = numbers ready (λ t k. omega (arith, l .same-standings t, nowhere m s t k));
+    delay-tasks = numbers (tasks delay) (λ t k. omega (arith, l .same-standings t, nowhere m s t k));
+    queue-tasks = numbers-wait queue (λ t k. omega (arith, l .same-standings t, nowhere m s t k));
     ready-falls = l .ready-falls;
     times-rise = l .times-rise;
     bases = s .bases;
@@ -85,11 +85,11 @@ module _ (m : Machine) (s : Sound m) (on : m .started ≡ true) where
 -- Those who are placed, in order.
 pub count-enter : (m : Machine) (t : ℕ) (us l : List ℕ) → count t (enter m us l) ≡ count t us + count t l
 count-enter m t [] l = omega arith
-count-enter m t (u ∷ us) l = omega (arith, count-enter m t us (at-tail (act m) (at (m .base) u) u l), count-place t (λ y. ltb (act m y) (at (m .base) u)) u l)
+count-enter m t (u ∷ us) l = omega (arith, count-enter m t us (at-tail (active m) (at (m .base) u) u l), count-place t (λ y. ltb (active m y) (at (m .base) u)) u l)
 
-enter-falls : (m : Machine) (us : List ℕ) → All (λ u. act m u ≡ at (m .base) u) us → (l : List ℕ) → Pairwise (λ a b. act m b ≤ act m a) l → Pairwise (λ a b. act m b ≤ act m a) (enter m us l)
+enter-falls : (m : Machine) (us : List ℕ) → All (λ u. active m u ≡ at (m .base) u) us → (l : List ℕ) → Pairwise (λ a b. active m b ≤ active m a) l → Pairwise (λ a b. active m b ≤ active m a) (enter m us l)
 enter-falls m [] h l k = k
-enter-falls m (u ∷ us) h l k = enter-falls m us (h .1) (at-tail (act m) (at (m .base) u) u l) (tail-falls (act m) (at (m .base) u) u (let z = h .0 in omega arith) (let z = h .0 in omega arith) l k)
+enter-falls m (u ∷ us) h l k = enter-falls m us (h .1) (at-tail (active m) (at (m .base) u) u l) (tail-falls (active m) (at (m .base) u) u (let z = h .0 in omega arith) (let z = h .0 in omega arith) l k)
 
 -- The release.
 module _ (m : Machine) (s : Sound m) where
@@ -102,7 +102,7 @@ module _ (m : Machine) (s : Sound m) where
   pub freed-away : (rel : Rel) → All (λ u. (at (m .held) u ≡ 0) × (u ≢ runner m)) (freed rel m)
   freed-away rel = all-standing (λ u. (at (m .held) u ≡ 0) × (u ≢ runner m)) (freed rel m) (λ u k. not-ready m s u (omega (arith, freed-elsewhere rel u, once m s u)))
 
-  freed-falls : (rel : Rel) → Pairwise (λ a b. act m b ≤ act m a) (enter m (freed rel m) (m .ready))
+  freed-falls : (rel : Rel) → Pairwise (λ a b. active m b ≤ active m a) (enter m (freed rel m) (m .ready))
   freed-falls rel = enter-falls m (freed rel m) (all-map (λ u w. act-free m u (w .0)) (freed rel m) (freed-away rel)) (m .ready) (s .ready-falls)
 
   more-ready : (rel : Rel) (t : ℕ) → 1 ≤ count t (m .ready) → 1 ≤ count t (enter m (freed rel m) (m .ready))
@@ -111,36 +111,36 @@ module _ (m : Machine) (s : Sound m) where
   pub release-sound : m .started ≡ true → (rel : Rel) → Sound (release rel m)
   unfolding release
   release-sound on none = s
-  release-sound on due = moved-sound m s on (m .held) (m .way) (enter m (freed due m) (m .ready)) (tail (m .delay)) (m .queue) (same-hands m s on) record {
+  release-sound on due = moved-sound m s on (m .held) (m .way) (enter m (freed due m) (m .ready)) (rest (m .delay)) (m .queue) (same-hands m s on) record {
     queue-size = s .queue-size;
-    times-fit = all-tail (λ e. e .0 < 2 ^ 64) (m .delay) (s .times-fit);
-    same-places = λ t. rw (tasks-tail (m .delay)) (omega (arith, count-enter m t (freed due m) (m .ready), count-first t (tasks (m .delay))));
+    times-fit = all-rest (λ e. e .0 < 2 ^ 64) (m .delay) (s .times-fit);
+    same-standings = λ t. rw (tasks-rest (m .delay)) (omega (arith, count-enter m t (freed due m) (m .ready), count-first t (tasks (m .delay))));
     idle-there = more-ready due 0 (s .idle-there);
     ready-falls = freed-falls due;
-    times-rise = pairwise-tail (λ e f. e .0 ≤ f .0) (m .delay) (s .times-rise);
+    times-rise = pairwise-rest (λ e f. e .0 ≤ f .0) (m .delay) (s .times-rise);
     waiters = s .waiters;
     holder-ready = λ t k n. more-ready due t (s .holder-ready t k n);
     waiter-admitted = s .waiter-admitted;
   }
-  release-sound on (serve o) = moved-sound m s on (m .held) (m .way) (enter m (freed (serve o) m) (m .ready)) (m .delay) (set (m .queue) o (tail (getD (m .queue) o []))) (same-hands m s on) record {
-    queue-size = length-set (m .queue) o (tail (getD (m .queue) o [])) ∙ s .queue-size;
+  release-sound on (serve o) = moved-sound m s on (m .held) (m .way) (enter m (freed (serve o) m) (m .ready)) (m .delay) (set (m .queue) o (rest (getD (m .queue) o []))) (same-hands m s on) record {
+    queue-size = length-set (m .queue) o (rest (getD (m .queue) o [])) ∙ s .queue-size;
     times-fit = s .times-fit;
-    same-places = λ t. omega (arith, count-enter m t (freed (serve o) m) (m .ready), waits-fewer t (m .queue) o);
+    same-standings = λ t. omega (arith, count-enter m t (freed (serve o) m) (m .ready), waits-fewer t (m .queue) o);
     idle-there = more-ready (serve o) 0 (s .idle-there);
     ready-falls = freed-falls (serve o);
     times-rise = s .times-rise;
-    waiters = all-set (λ q. length q ≤ 1) (m .queue) o (tail (getD (m .queue) o [])) (shorter (getD (m .queue) o []) (all-at (λ q. length q ≤ 1) (m .queue) o [] (omega arith) (s .waiters))) (s .waiters);
+    waiters = all-set (λ q. length q ≤ 1) (m .queue) o (rest (getD (m .queue) o [])) (shorter (getD (m .queue) o []) (all-at (λ q. length q ≤ 1) (m .queue) o [] (omega arith) (s .waiters))) (s .waiters);
     holder-ready = λ t k n. more-ready (serve o) t (s .holder-ready t k n);
-    waiter-admitted = λ q k. admitted q k (set-either (m .queue) o (tail (getD (m .queue) o [])) q []);
+    waiter-admitted = λ q k. admitted q k (set-either (m .queue) o (rest (getD (m .queue) o [])) q []);
   }
     where
-      shorter : (q : List ℕ) → length q ≤ 1 → length (tail q) ≤ 1
+      shorter : (q : List ℕ) → length q ≤ 1 → length (rest q) ≤ 1
       shorter [] h = h
       shorter (x ∷ q) h = omega arith
 
-      admitted : (q : ℕ) → q < 8 → ((q ≡ o) × (getD (set (m .queue) o (tail (getD (m .queue) o []))) q [] ≡ tail (getD (m .queue) o [])))
-          ⊎ (getD (set (m .queue) o (tail (getD (m .queue) o []))) q [] ≡ getD (m .queue) q []) → All (Admits m q) (getD (set (m .queue) o (tail (getD (m .queue) o []))) q [])
-      admitted q k (inl w) = rw (w .1, ← w .0) (all-tail (Admits m q) (getD (m .queue) q []) (s .waiter-admitted q k))
+      admitted : (q : ℕ) → q < 8 → ((q ≡ o) × (getD (set (m .queue) o (rest (getD (m .queue) o []))) q [] ≡ rest (getD (m .queue) o [])))
+          ⊎ (getD (set (m .queue) o (rest (getD (m .queue) o []))) q [] ≡ getD (m .queue) q []) → All (Admits m q) (getD (set (m .queue) o (rest (getD (m .queue) o []))) q [])
+      admitted q k (inl w) = rw (w .1, ← w .0) (all-rest (Admits m q) (getD (m .queue) q []) (s .waiter-admitted q k))
       admitted q k (inr w) = rw w (s .waiter-admitted q k)
 
 -- The way out of the runner: what an accepted command has shown of it.
@@ -210,24 +210,24 @@ module _ (m : Machine) (s : Sound m) where
 
   -- the others keep their active priorities, and so their order
   abbrev pub act-with : ℕ → ℕ → ℕ
-  act-with v = active (m .base) (m .ceiling) (set (m .held) (runner m) v)
+  act-with v = active (with-hands m (set (m .held) (runner m) v) (m .way))
 
-  pub act-other : (v t : ℕ) → t ≢ runner m → act-with v t ≡ act m t
+  pub act-other : (v t : ℕ) → t ≢ runner m → act-with v t ≡ active m t
   act-other v t n = rw (other-held v t n)
 
-  behind-falls : (v : ℕ) → Pairwise (λ a b. act-with v b ≤ act-with v a) (tail (m .ready))
+  behind-falls : (v : ℕ) → Pairwise (λ a b. act-with v b ≤ act-with v a) (rest (m .ready))
   behind-falls v =
-      pairwise-map {P = λ t. t ≢ runner m} (λ a b na nb w. omega (arith, act-other v a na, act-other v b nb)) (tail (m .ready)) (others m s) (pairwise-tail (λ a b. act m b ≤ act m a) (m .ready) (s .ready-falls))
+      pairwise-map {P = λ t. t ≢ runner m} (λ a b na nb w. omega (arith, act-other v a na, act-other v b nb)) (rest (m .ready)) (others m s) (pairwise-rest (λ a b. active m b ≤ active m a) (m .ready) (s .ready-falls))
 
-  behind-runner : All (λ t. (t ≢ runner m) × (act m t ≤ act m (runner m))) (tail (m .ready))
-  behind-runner = all-both (λ t. t ≢ runner m) (λ t. act m t ≤ act m (runner m)) (tail (m .ready)) (others m s) (front-over (λ a b. act m b ≤ act m a) 0 (m .ready) (s .ready-falls))
+  behind-runner : All (λ t. (t ≢ runner m) × (active m t ≤ active m (runner m))) (rest (m .ready))
+  behind-runner = all-both (λ t. t ≢ runner m) (λ t. active m t ≤ active m (runner m)) (rest (m .ready)) (others m s) (front-over (λ a b. active m b ≤ active m a) 0 (m .ready) (s .ready-falls))
 
   -- a line into which the runner came back holds whom it held; without it, all but the runner
-  back-again : (f : ℕ → Bool) (t : ℕ) → count t (place f (runner m) (tail (m .ready))) ≡ count t (m .ready)
-  back-again f t = omega (arith, count-place t f (runner m) (tail (m .ready)), rest m s t)
+  back-again : (f : ℕ → Bool) (t : ℕ) → count t (place f (runner m) (rest (m .ready))) ≡ count t (m .ready)
+  back-again f t = omega (arith, count-place t f (runner m) (rest (m .ready)), front-and-rest m s t)
 
-  gone-other : (t : ℕ) → t ≢ runner m → count t (tail (m .ready)) ≡ count t (m .ready)
-  gone-other t n = let z : one-if (eqb t (runner m)) ≡ 0 = rw (ne-eqb t (runner m) n) in omega (arith, rest m s t)
+  gone-other : (t : ℕ) → t ≢ runner m → count t (rest (m .ready)) ≡ count t (m .ready)
+  gone-other t n = let z : one-if (eqb t (runner m)) ≡ 0 = rw (ne-eqb t (runner m) n) in omega (arith, front-and-rest m s t)
 
   take-sound : m .started ≡ true → (o w : ℕ) → MayTake m o w → Sound (leave (take o w) m)
   unfolding leave
@@ -236,9 +236,9 @@ module _ (m : Machine) (s : Sound m) where
       (set-hands o w (g .leaves .busy) (λ e. absurd (real e)) (λ n. g .in-one-way) (λ n. g .admits) (λ n. g .unheld)) record {
         queue-size = s .queue-size;
         times-fit = s .times-fit;
-        same-places = λ t. refl;
+        same-standings = λ t. refl;
         idle-there = s .idle-there;
-        ready-falls = pairwise-front (λ a b. act-with o b ≤ act-with o a) 0 (m .ready) (all-map (λ t k. omega (arith, act-other o t (k .0), k .1, rises)) (tail (m .ready)) behind-runner) (behind-falls o);
+        ready-falls = pairwise-front (λ a b. act-with o b ≤ act-with o a) 0 (m .ready) (all-map (λ t k. omega (arith, act-other o t (k .0), k .1, rises)) (rest (m .ready)) behind-runner) (behind-falls o);
         times-rise = s .times-rise;
         waiters = s .waiters;
         holder-ready = λ t h n. ⊎-elim (λ (e : t ≡ runner m). rw e (runner-there m s)) (λ (k : t ≢ runner m). s .holder-ready t h (λ z. n (other-held o t k ∙ z))) (eq-or-ne t (runner m));
@@ -248,34 +248,34 @@ module _ (m : Machine) (s : Sound m) where
       real : o ≢ 0
       real = object-real m s o (g .admits .0)
 
-      rises : act m (runner m) ≤ act-with o (runner m)
+      rises : active m (runner m) ≤ act-with o (runner m)
       rises = rw (new-held o, ne-eqb o 0 real) (omega (arith, act-free m (runner m) (g .leaves .bare), g .admits .1))
 
   yield-sound : m .started ≡ true → MayLeave m → Sound (leave yield m)
   unfolding leave
   yield-sound on g =
-      moved-sound m s on (m .held) (m .way) (at-tail (act m) (at (m .base) (runner m)) (runner m) (tail (m .ready))) (m .delay) (m .queue) (same-hands m s on) record {
+      moved-sound m s on (m .held) (m .way) (at-tail (active m) (at (m .base) (runner m)) (runner m) (rest (m .ready))) (m .delay) (m .queue) (same-hands m s on) record {
         queue-size = s .queue-size;
         times-fit = s .times-fit;
-        same-places = λ t. omega (arith, back-again (λ y. ltb (act m y) (at (m .base) (runner m))) t);
-        idle-there = omega (arith, back-again (λ y. ltb (act m y) (at (m .base) (runner m))) 0, s .idle-there);
-        ready-falls = tail-falls (act m) (at (m .base) (runner m)) (runner m) (omega (arith, act-free m (runner m) (g .bare))) (omega (arith, act-free m (runner m) (g .bare))) (tail (m .ready)) (pairwise-tail (λ a b. act m b ≤ act m a) (m .ready) (s .ready-falls));
+        same-standings = λ t. omega (arith, back-again (λ y. ltb (active m y) (at (m .base) (runner m))) t);
+        idle-there = omega (arith, back-again (λ y. ltb (active m y) (at (m .base) (runner m))) 0, s .idle-there);
+        ready-falls = tail-falls (active m) (at (m .base) (runner m)) (runner m) (omega (arith, act-free m (runner m) (g .bare))) (omega (arith, act-free m (runner m) (g .bare))) (rest (m .ready)) (pairwise-rest (λ a b. active m b ≤ active m a) (m .ready) (s .ready-falls));
         times-rise = s .times-rise;
         waiters = s .waiters;
-        holder-ready = λ t h n. omega (arith, back-again (λ y. ltb (act m y) (at (m .base) (runner m))) t, s .holder-ready t h n);
+        holder-ready = λ t h n. omega (arith, back-again (λ y. ltb (active m y) (at (m .base) (runner m))) t, s .holder-ready t h n);
         waiter-admitted = s .waiter-admitted;
       }
 
   close-sound : m .started ≡ true → runner m ≢ 0 → Sound (leave close m)
   unfolding leave
   close-sound on busy =
-      moved-sound m s on (set (m .held) (runner m) 0) (set (m .way) (runner m) 0) (at-head (act-with 0) (at (m .base) (runner m)) (runner m) (tail (m .ready))) (m .delay) (m .queue)
+      moved-sound m s on (set (m .held) (runner m) 0) (set (m .way) (runner m) 0) (at-head (act-with 0) (at (m .base) (runner m)) (runner m) (rest (m .ready))) (m .delay) (m .queue)
       (set-hands 0 0 busy (λ e. refl) (λ n. absurd (n refl)) (λ n. absurd (n refl)) (λ n. absurd (n refl))) record {
         queue-size = s .queue-size;
         times-fit = s .times-fit;
-        same-places = λ t. omega (arith, back-again stop t);
+        same-standings = λ t. omega (arith, back-again stop t);
         idle-there = omega (arith, back-again stop 0, s .idle-there);
-        ready-falls = tail-falls (act-with 0) (suc (at (m .base) (runner m))) (runner m) (omega (arith, falls)) (omega (arith, falls)) (tail (m .ready)) (behind-falls 0);
+        ready-falls = tail-falls (act-with 0) (suc (at (m .base) (runner m))) (runner m) (omega (arith, falls)) (omega (arith, falls)) (rest (m .ready)) (behind-falls 0);
         times-rise = s .times-rise;
         waiters = s .waiters;
         holder-ready = λ t h n. ⊎-elim (λ (e : t ≡ runner m). absurd (n (ap (at (set (m .held) (runner m) 0)) e ∙ new-held 0))) (λ (k : t ≢ runner m). omega (arith, back-again stop t, s .holder-ready t h (λ z. n (other-held 0 t k ∙ z)))) (eq-or-ne t (runner m));
@@ -291,12 +291,12 @@ module _ (m : Machine) (s : Sound m) where
   sleep-sound : m .started ≡ true → (d : ℕ) → MaySleep m d → Sound (leave (sleep d) m)
   unfolding leave
   sleep-sound on d g =
-      moved-sound m s on (m .held) (m .way) (tail (m .ready)) (by-time (d, runner m) (m .delay)) (m .queue) (same-hands m s on) record {
+      moved-sound m s on (m .held) (m .way) (rest (m .ready)) (by-time (d, runner m) (m .delay)) (m .queue) (same-hands m s on) record {
         queue-size = s .queue-size;
         times-fit = all-place (λ e. e .0 < 2 ^ 64) (λ f. ltb d (f .0)) (d, runner m) (m .delay) (g .fits) (s .times-fit);
-        same-places = λ t. omega (arith, rest m s t, count-tasks-place t (λ f. ltb d (f .0)) (d, runner m) (m .delay));
+        same-standings = λ t. omega (arith, front-and-rest m s t, count-tasks-place t (λ f. ltb d (f .0)) (d, runner m) (m .delay));
         idle-there = omega (arith, gone-other 0 (λ e. g .leaves .busy (sym e)), s .idle-there);
-        ready-falls = pairwise-tail (λ a b. act m b ≤ act m a) (m .ready) (s .ready-falls);
+        ready-falls = pairwise-rest (λ a b. active m b ≤ active m a) (m .ready) (s .ready-falls);
         times-rise = times-rise-placed (d, runner m) (m .delay) (s .times-rise);
         waiters = s .waiters;
         holder-ready = λ t h n. omega (arith, gone-other t (λ e. n (ap (at (m .held)) e ∙ g .leaves .bare)), s .holder-ready t h n);
@@ -306,12 +306,12 @@ module _ (m : Machine) (s : Sound m) where
   await-sound : m .started ≡ true → (o : ℕ) → MayAwait m o → Sound (leave (await o) m)
   unfolding leave
   await-sound on o g =
-      moved-sound m s on (m .held) (m .way) (tail (m .ready)) (m .delay) (set (m .queue) o (getD (m .queue) o [] ++ (runner m ∷ []))) (same-hands m s on) record {
+      moved-sound m s on (m .held) (m .way) (rest (m .ready)) (m .delay) (set (m .queue) o (getD (m .queue) o [] ++ (runner m ∷ []))) (same-hands m s on) record {
         queue-size = length-set (m .queue) o (getD (m .queue) o [] ++ (runner m ∷ [])) ∙ s .queue-size;
         times-fit = s .times-fit;
-        same-places = λ t. omega (arith, rest m s t, waits-more t (m .queue) o (runner m) (omega (arith, s .queue-size, object-known m s o (g .admits .0))));
+        same-standings = λ t. omega (arith, front-and-rest m s t, waits-more t (m .queue) o (runner m) (omega (arith, s .queue-size, object-known m s o (g .admits .0))));
         idle-there = omega (arith, gone-other 0 (λ e. g .leaves .busy (sym e)), s .idle-there);
-        ready-falls = pairwise-tail (λ a b. act m b ≤ act m a) (m .ready) (s .ready-falls);
+        ready-falls = pairwise-rest (λ a b. active m b ≤ active m a) (m .ready) (s .ready-falls);
         times-rise = s .times-rise;
         waiters = all-set (λ q. length q ≤ 1) (m .queue) o (getD (m .queue) o [] ++ (runner m ∷ [])) (rw (g .alone) (omega arith)) (s .waiters);
         holder-ready = λ t h n. omega (arith, gone-other t (λ e. n (ap (at (m .held)) e ∙ g .leaves .bare)), s .holder-ready t h n);

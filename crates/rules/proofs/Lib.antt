@@ -9,3 +9,6 @@ pub mod SetUp
 pub mod Accepted
 pub mod Step
 pub mod Wakes
+pub mod Clear
+pub mod Release
+pub mod Theorems

@@ -9,7 +9,7 @@ use mathlib.Core.List.{List, [], _∷_, _++_}
 use lib.Dec.{eqb, leb, ltb}
 use lib.ListN.{getD, set, length, replicate}
 use borrow.Author.Tests.{ltb-true, ltb-false, eqb-true, eqb-false, ne-eqb, eq-eqb}
-use Rattle.rules.specs.Line.{place, tail, front, first-alone, at, at-tail, count, one-if}
+use Rattle.rules.specs.Line.{place, rest, front, first-alone, at, at-tail, count, one-if}
 use Rattle.rules.specs.Machine.{tasks}
 use Rattle.rules.specs.Sound.{waits}
 use Rattle.rules.proofs.Words.{All, Pairwise}
@@ -47,9 +47,9 @@ module _ {A : Type 0} where
   all-place P stop x (y ∷ l) p h =
       elim (stop y) as (λ b. All P (cond b (x ∷ y ∷ l) (y ∷ place stop x l))) [ true ↦ (p, h) | false ↦ (h .0, all-place P stop x l p (h .1)) ]
 
-  pub all-tail : (P : A → Type 0) (l : List A) → All P l → All P (tail l)
-  all-tail P [] h = tt
-  all-tail P (x ∷ l) h = h .1
+  pub all-rest : (P : A → Type 0) (l : List A) → All P l → All P (rest l)
+  all-rest P [] h = tt
+  all-rest P (x ∷ l) h = h .1
 
   pub all-at : (P : A → Type 0) (l : List A) (i : ℕ) (d : A) → P d → All P l → P (getD l i d)
   all-at P [] i d p h = p
@@ -65,15 +65,15 @@ module _ {A : Type 0} where
   pairwise-map f [] h k = tt
   pairwise-map {P} {R} f (x ∷ l) h k = (all-map (λ b w. f x b (h .0) (w .0) (w .1)) l (all-both P (R x) l (h .1) (k .0)), pairwise-map f l (h .1) (k .1))
 
-  pub pairwise-tail : (R : A → A → Type 0) (l : List A) → Pairwise R l → Pairwise R (tail l)
-  pairwise-tail R [] k = tt
-  pairwise-tail R (x ∷ l) k = k .1
+  pub pairwise-rest : (R : A → A → Type 0) (l : List A) → Pairwise R l → Pairwise R (rest l)
+  pairwise-rest R [] k = tt
+  pairwise-rest R (x ∷ l) k = k .1
 
-  pub front-over : (R : A → A → Type 0) (d : A) (l : List A) → Pairwise R l → All (R (front d l)) (tail l)
+  pub front-over : (R : A → A → Type 0) (d : A) (l : List A) → Pairwise R l → All (R (front d l)) (rest l)
   front-over R d [] k = tt
   front-over R d (x ∷ l) k = k .0
 
-  pub pairwise-front : (R : A → A → Type 0) (d : A) (l : List A) → All (R (front d l)) (tail l) → Pairwise R (tail l) → Pairwise R l
+  pub pairwise-front : (R : A → A → Type 0) (d : A) (l : List A) → All (R (front d l)) (rest l) → Pairwise R (rest l) → Pairwise R l
   pairwise-front R d [] h k = tt
   pairwise-front R d (x ∷ l) h k = (h, k)
 
@@ -86,7 +86,7 @@ module _ {A : Type 0} where
   set-either (x ∷ l) (suc i) v (suc j) d =
       ⊎-elim (λ (w : (j ≡ i) × (getD (set l i v) j d ≡ v)). inl (ap suc (w .0), w .1)) (λ (w : getD (set l i v) j d ≡ getD l j d). inr w) (set-either l i v j d)
 
--- Whatever is placed by a level keeps a relation that goes with the level: those up to the first below p stand over x, and x over the rest.
+-- Whatever is placed by a level keeps a relation that goes with the level: those up to the first below p stand over x, and x over the front-and-rest.
 pub tail-pairwise : (R : ℕ → ℕ → Type 0) (act : ℕ → ℕ) (p x : ℕ) → ((y : ℕ) → p ≤ act y → R y x)
     → (l : List ℕ) → Pairwise (λ a b. act b ≤ act a) l → All (λ y. act y < p → R x y) l → Pairwise R l → Pairwise R (at-tail act p x l)
 tail-pairwise R act p x up [] o down k = (tt, tt)
@@ -144,7 +144,7 @@ standing P (x ∷ l) h t k = go (standing P l (h .1) t) (eqb t x) refl k
     go ih true e k = rw (eqb-true t x e) (h .0)
     go ih false e k = ih (omega arith)
 
-pub count-front : (l : List ℕ) (z : ℕ) → 1 ≤ count z l → (t : ℕ) → count t l ≡ one-if (eqb t (front 0 l)) + count t (tail l)
+pub count-front : (l : List ℕ) (z : ℕ) → 1 ≤ count z l → (t : ℕ) → count t l ≡ one-if (eqb t (front 0 l)) + count t (rest l)
 count-front [] z h t = absurd (omega arith)
 count-front (x ∷ l) z h t = refl
 
@@ -152,13 +152,13 @@ pub count-snoc : (t : ℕ) (l : List ℕ) (r : ℕ) → count t (l ++ (r ∷ [])
 count-snoc t [] r = refl
 count-snoc t (x ∷ l) r = omega (arith, count-snoc t l r)
 
-pub count-first : (t : ℕ) (l : List ℕ) → count t (first-alone l) + count t (tail l) ≡ count t l
+pub count-first : (t : ℕ) (l : List ℕ) → count t (first-alone l) + count t (rest l) ≡ count t l
 count-first t [] = refl
 count-first t (x ∷ l) = omega arith
 
-pub tasks-tail : (l : List (ℕ × ℕ)) → tasks (tail l) ≡ tail (tasks l)
-tasks-tail [] = refl
-tasks-tail (e ∷ l) = refl
+pub tasks-rest : (l : List (ℕ × ℕ)) → tasks (rest l) ≡ rest (tasks l)
+tasks-rest [] = refl
+tasks-rest (e ∷ l) = refl
 
 pub count-set : (o : ℕ) (l : List ℕ) (i v : ℕ) → count o (set l i v) ≤ one-if (eqb o v) + count o l
 count-set o [] i v = omega arith
@@ -171,7 +171,7 @@ waits-more t [] o r h = absurd (omega arith)
 waits-more t (l ∷ q) zero r h = omega (arith, count-snoc t l r)
 waits-more t (l ∷ q) (suc o) r h = omega (arith, waits-more t q o r (omega arith))
 
-pub waits-fewer : (t : ℕ) (q : List (List ℕ)) (o : ℕ) → count t (first-alone (getD q o [])) + waits t (set q o (tail (getD q o []))) ≡ waits t q
+pub waits-fewer : (t : ℕ) (q : List (List ℕ)) (o : ℕ) → count t (first-alone (getD q o [])) + waits t (set q o (rest (getD q o []))) ≡ waits t q
 waits-fewer t [] o = refl
 waits-fewer t (l ∷ q) zero = omega (arith, count-first t l)
 waits-fewer t (l ∷ q) (suc o) = omega (arith, waits-fewer t q o)

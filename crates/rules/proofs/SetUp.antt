@@ -11,9 +11,9 @@ use lib.ListN.{getD, set, length, length-set}
 use lib.Seq.{getD-set-other, getD-set-same}
 use borrow.Author.Tests.{eqb-true, eq-eqb, eqb-false, ne-eqb}
 use Rattle.rules.specs.Line.{at, at-tail, count, one-if}
-use Rattle.rules.specs.Machine.{Machine, act, tasks, created}
+use Rattle.rules.specs.Machine.{Machine, active, tasks, created}
 use Rattle.rules.specs.Table.{Effect, creates, declares, begins, with-set-up, with-lines, carry}
-use Rattle.rules.specs.Sound.{places, waits}
+use Rattle.rules.specs.Sound.{standings, waits}
 use Rattle.rules.proofs.Words.{All, Pairwise}
 use Rattle.rules.proofs.Lists.{all-every, all-place, all-at, all-set, pairwise-map, tail-falls, count-place, count-absent, eq-or-ne}
 use Rattle.rules.proofs.Sounds.{Sound, Admits, Calm, act-free}
@@ -34,7 +34,7 @@ module _ (m : Machine) (s : Sound m) (off : m .started ≢ true) where
   pub nobody-holds : (t : ℕ) → at (m .held) t ≡ 0
   nobody-holds t = all-at (λ o. o ≡ 0) (m .held) t 0 refl (s .calm off .1)
 
-  act-base : (t : ℕ) → act m t ≡ at (m .base) t
+  act-base : (t : ℕ) → active m t ≡ at (m .base) t
   act-base t = act-free m t (nobody-holds t)
 
   nobody-waits : (o : ℕ) → getD (m .queue) o [] ≡ []
@@ -55,10 +55,10 @@ module _ (m : Machine) (s : Sound m) where
     idle-there = omega (arith, one-more 0, s .idle-there);
     idle-free = s .idle-free;
     stands = λ x h. ⊎-elim (λ (e : x ≡ t). rw e mine) (λ (n : x ≢ t). theirs x h n) (eq-or-ne x t);
-    ready-tasks = all-place (λ x. x < 32) (λ y. ltb (act new y) p) t (m .ready) (g .task .1) (s .ready-tasks);
+    ready-tasks = all-place (λ x. x < 32) (λ y. ltb (active new y) p) t (m .ready) (g .task .1) (s .ready-tasks);
     delay-tasks = s .delay-tasks;
     queue-tasks = s .queue-tasks;
-    ready-falls = tail-falls (act new) p t (omega (arith, rank)) (omega (arith, rank)) (m .ready) (pairwise-map {P = λ x. x ≢ t} (λ x y nx ny w. omega (arith, kept x nx, kept y ny)) (m .ready) (count-absent t (m .ready) (omega (arith, nowhere))) (s .ready-falls));
+    ready-falls = tail-falls (active new) p t (omega (arith, rank)) (omega (arith, rank)) (m .ready) (pairwise-map {P = λ x. x ≢ t} (λ x y nx ny w. omega (arith, kept x nx, kept y ny)) (m .ready) (count-absent t (m .ready) (omega (arith, nowhere))) (s .ready-falls));
     times-rise = s .times-rise;
     bases = all-set (λ p. p ≤ 15) (m .base) t p (g .rank .1) (s .bases);
     ceilings = s .ceilings;
@@ -78,22 +78,22 @@ module _ (m : Machine) (s : Sound m) where
       stored : at (set (m .base) t p) t ≡ p
       stored = getD-set-same (m .base) t p 0 (let z = g .task .1 in omega (arith, s .base-size))
 
-      rank : act new t ≡ p
+      rank : active new t ≡ p
       rank = act-free new t (nobody-holds m s (g .off) t) ∙ stored
 
-      kept : (x : ℕ) → x ≢ t → act new x ≡ act m x
+      kept : (x : ℕ) → x ≢ t → active new x ≡ active m x
       kept x n = act-free new x (nobody-holds m s (g .off) x) ∙ getD-set-other (m .base) t x p 0 n ∙ sym (act-base m s (g .off) x)
 
-      nowhere : places m t ≡ 0
+      nowhere : standings m t ≡ 0
       nowhere = s .stands t (g .task .1) ∙ ap one-if (g .new)
 
-      one-more : (x : ℕ) → count x (at-tail (act new) p t (m .ready)) ≡ one-if (eqb x t) + count x (m .ready)
-      one-more x = count-place x (λ y. ltb (act new y) p) t (m .ready)
+      one-more : (x : ℕ) → count x (at-tail (active new) p t (m .ready)) ≡ one-if (eqb x t) + count x (m .ready)
+      one-more x = count-place x (λ y. ltb (active new y) p) t (m .ready)
 
-      mine : count t (at-tail (act new) p t (m .ready)) + count t (tasks (m .delay)) + waits t (m .queue) ≡ one-if (eqb t 0 || not (eqb (at (set (m .base) t p) t) 0))
+      mine : count t (at-tail (active new) p t (m .ready)) + count t (tasks (m .delay)) + waits t (m .queue) ≡ one-if (eqb t 0 || not (eqb (at (set (m .base) t p) t) 0))
       mine = rw (stored, ne-eqb p 0 (λ e. let z = g .rank .0 in omega arith), ne-eqb t 0 (λ e. let z = g .task .0 in omega arith)) (let y : one-if (eqb t t) ≡ 1 = rw (eq-eqb t t refl) in omega (arith, one-more t, nowhere))
 
-      theirs : (x : ℕ) → x < 32 → x ≢ t → count x (at-tail (act new) p t (m .ready)) + count x (tasks (m .delay)) + waits x (m .queue) ≡ one-if (eqb x 0 || not (eqb (at (set (m .base) t p) x) 0))
+      theirs : (x : ℕ) → x < 32 → x ≢ t → count x (at-tail (active new) p t (m .ready)) + count x (tasks (m .delay)) + waits x (m .queue) ≡ one-if (eqb x 0 || not (eqb (at (set (m .base) t p) x) 0))
       theirs x h n = rw (getD-set-other (m .base) t x p 0 n) (let y : one-if (eqb x t) ≡ 0 = rw (ne-eqb x t n) in omega (arith, one-more x, s .stands x h))
 
   pub declare-sound : (o p : ℕ) → MayDeclare m o p → Sound (carry m (declares o p))
@@ -130,7 +130,7 @@ module _ (m : Machine) (s : Sound m) where
       new : Machine
       new = with-set-up m (m .base) (set (m .ceiling) o p) (m .started)
 
-      kept : (x : ℕ) → act new x ≡ act m x
+      kept : (x : ℕ) → active new x ≡ active m x
       kept x = act-free new x (nobody-holds m s (g .off) x) ∙ sym (act-base m s (g .off) x)
 
   -- Start, and the clock that goes on: all but the two stays.

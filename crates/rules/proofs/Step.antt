@@ -8,7 +8,7 @@ use mathlib.Core.Bool.{Bool, true, false, cond, not, _&&_, true≢false}
 use mathlib.Core.List.{List, [], _∷_}
 use lib.Dec.{eqb}
 use borrow.Author.Tests.{eqb-true, eqb-false}
-use Rattle.rules.specs.Line.{below}
+use Rattle.rules.specs.Line.{all-below}
 use Rattle.rules.specs.Machine.{Machine, Command, fresh}
 use Rattle.rules.specs.Table.{Out, same, take, yield, close, sleep, await, Rel, none, due, serve, Effect, nothing, creates, declares, begins, moves, effect, release, leave, carry, freed-by}
 use Rattle.rules.specs.Refusals.{refusal}
@@ -103,7 +103,7 @@ run-sound [] m s = s
 run-sound (c ∷ cs) m s = run-sound cs (next m c) (next-sound m s c)
 
 pub fresh-test : sound fresh ≡ true
-unfolding sound below
+unfolding sound all-below
 fresh-test = refl
 
 pub fresh-sound : Sound fresh

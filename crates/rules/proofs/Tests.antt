@@ -7,7 +7,7 @@ use mathlib.Core.Bool.{Bool, true, false, cond, not, _&&_, _||_, true≢false}
 use mathlib.Core.List.{List, [], _∷_}
 use lib.Dec.{eqb, leb, ltb}
 use borrow.Author.Tests.{eqb-true, eq-eqb, leb-true, le-leb, ltb-true, lt-ltb, eqb-false, ne-eqb, not-true}
-use Rattle.rules.specs.Line.{every, neighbours, below, empty}
+use Rattle.rules.specs.Line.{every, neighbours, all-below, empty}
 use Rattle.rules.proofs.Words.{All, Pairwise}
 use Rattle.rules.proofs.Lists.{all-map}
 
@@ -86,10 +86,10 @@ tests-neighbours R on t (x ∷ []) = record { sure = λ e. (tt, tt); found = λ 
 tests-neighbours R on t (x ∷ (y ∷ l)) =
     tests-map (λ w. ((w .0, all-map (λ z k. on x y z (w .0) k) l (w .1 .0)), w .1)) (λ k. (k .0 .0, k .1)) (tests-and (t x y) (tests-neighbours R on t (y ∷ l)))
 
-pub tests-below : {f : ℕ → Bool} {P : ℕ → Type 0} → ((a : ℕ) → Tests (f a) (P a)) → (n : ℕ) → Tests (below n f) ((a : ℕ) → a < n → P a)
-unfolding below
-tests-below t zero = record { sure = λ e a h. absurd (omega arith); found = λ k. refl }
-tests-below {f} {P} t (suc n) = tests-map (λ w a h. up w a h (eqb a n) refl) (λ k. (k n (omega arith), λ a h. k a (omega arith))) (tests-and (t n) (tests-below t n))
+pub tests-all-below : {f : ℕ → Bool} {P : ℕ → Type 0} → ((a : ℕ) → Tests (f a) (P a)) → (n : ℕ) → Tests (all-below n f) ((a : ℕ) → a < n → P a)
+unfolding all-below
+tests-all-below t zero = record { sure = λ e a h. absurd (omega arith); found = λ k. refl }
+tests-all-below {f} {P} t (suc n) = tests-map (λ w a h. up w a h (eqb a n) refl) (λ k. (k n (omega arith), λ a h. k a (omega arith))) (tests-and (t n) (tests-all-below t n))
   where
     up : P n × ((a : ℕ) → a < n → P a) → (a : ℕ) → a < suc n → (b : Bool) → eqb a n ≡ b → P a
     up w a h true e = rw (eqb-true a n e) (w .0)

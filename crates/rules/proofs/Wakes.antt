@@ -11,11 +11,11 @@ use mathlib.Core.List.{List, [], _∷_}
 use lib.Dec.{eqb, leb, ltb}
 use lib.ListN.{getD, set, length}
 use borrow.Author.Tests.{eqb-true, eq-eqb, eqb-false, ne-eqb, le-ltb, le-leb, leb-true, leb-false}
-use Rattle.rules.specs.Line.{at, front, tail, first-alone, by-time, count, one-if, empty}
+use Rattle.rules.specs.Line.{at, front, rest, first-alone, by-time, count, one-if, empty}
 use Rattle.rules.specs.Machine.{Machine, Command, tasks, runner}
 use Rattle.rules.specs.Table.{Out, same, take, yield, close, sleep, await, Rel, none, due, serve, Effect, nothing, creates, declares, begins, moves, first-due, effect, freed, freed-by, later, release, leave, carry}
 use Rattle.rules.specs.Refusals.{refusal}
-use Rattle.rules.specs.Sound.{places, waits}
+use Rattle.rules.specs.Sound.{standings, waits}
 use Rattle.rules.specs.Run.{next, released, answer, run, answers, is-due, ahead, wakes-left}
 use Rattle.rules.proofs.Words.{All, Pairwise, cmd, wakes, wakes-in, DueAt}
 use Rattle.rules.proofs.Lists.{waits-fewer, one-self}
@@ -102,7 +102,7 @@ module _ (m : Machine) (s : Sound m) (t r : ℕ) (d : DueAt m t r) where
   not-served : (o : ℕ) → front 0 (freed (serve o) m) ≢ t
   not-served o e = go (getD (m .queue) o []) e (waits-fewer t (m .queue) o)
     where
-      go : (q : List ℕ) → front 0 (first-alone q) ≡ t → count t (first-alone q) + waits t (set (m .queue) o (tail (getD (m .queue) o []))) ≡ waits t (m .queue) → ⊥
+      go : (q : List ℕ) → front 0 (first-alone q) ≡ t → count t (first-alone q) + waits t (set (m .queue) o (rest (getD (m .queue) o []))) ≡ waits t (m .queue) → ⊥
       go [] e k = not-idle (sym e)
       go (x ∷ q) e k = let z : one-if (eqb t x) ≡ 1 = rw (eq-eqb t x (sym e)) in omega (arith, delayed, once m s t)
 
@@ -145,7 +145,7 @@ first-task : (l : List (ℕ × ℕ)) → front 0 (first-alone (tasks l)) ≡ get
 first-task [] = refl
 first-task (e ∷ l) = refl
 
-behind-first : (l : List (ℕ × ℕ)) (r : ℕ) → suc r < length l → (r < length (tail l)) × (getD (tail l) r (0, 0) ≡ getD l (suc r) (0, 0))
+behind-first : (l : List (ℕ × ℕ)) (r : ℕ) → suc r < length l → (r < length (rest l)) × (getD (rest l) r (0, 0) ≡ getD l (suc r) (0, 0))
 behind-first [] r h = absurd (omega arith)
 behind-first (e ∷ l) r h = (omega arith, refl)
 

@@ -4,7 +4,7 @@ use mathlib.Core.Path.{_≡_, refl}
 use mathlib.Core.Bool.{Bool, true, false, cond}
 use mathlib.Core.List.{List, [], _∷_, map}
 use lib.ListN.{getD}
-use Rattle.rules.specs.Line.{below}
+use Rattle.rules.specs.Line.{all-below}
 use Rattle.rules.specs.Machine.{Machine, Command, fresh}
 use Rattle.rules.specs.Table.{carry, leave, release}
 use Rattle.rules.specs.Refusals.{refusal}

@@ -7,7 +7,7 @@ use mathlib.Core.List.{List, [], _∷_}
 use lib.Dec.{eqb}
 use lib.ListN.{length, getD}
 use Rattle.rules.specs.Line.{at, one-if}
-use Rattle.rules.specs.Machine.{Machine, Command, act}
+use Rattle.rules.specs.Machine.{Machine, Command, active}
 use Rattle.rules.specs.Run.{accepts, next}
 
 module _ {A : Type 0} where
@@ -46,4 +46,4 @@ pub record DueAt (m : Machine) (t r : ℕ) : Type 0 where
 
 -- where b holds an object, every task ahead of b in the ready line has a base above its ceiling, which is b's active priority
 unfoldable pub Clear : Machine → Type 0
-Clear m = Pairwise (λ a b. at (m .held) b ≢ 0 → act m b < at (m .base) a) (m .ready)
+Clear m = Pairwise (λ a b. at (m .held) b ≢ 0 → active m b < at (m .base) a) (m .ready)

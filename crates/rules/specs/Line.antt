@@ -16,9 +16,9 @@ module _ {A : Type 0} where
   front d [] = d
   front d (x ∷ l) = x
 
-  abbrev pub tail : List A → List A
-  tail [] = []
-  tail (x ∷ l) = l
+  abbrev pub rest : List A → List A
+  rest [] = []
+  rest (x ∷ l) = l
 
   abbrev pub first-alone : List A → List A
   first-alone [] = []
@@ -53,9 +53,9 @@ count t [] = 0
 count t (x ∷ l) = one-if (eqb t x) + count t l
 
 -- each number below n passes the test
-unfoldable pub below : ℕ → (ℕ → Bool) → Bool
-below zero f = true
-below (suc n) f = f n && below n f
+unfoldable pub all-below : ℕ → (ℕ → Bool) → Bool
+all-below zero f = true
+all-below (suc n) f = f n && all-below n f
 
 -- n is lo..hi; n is one of those listed
 abbrev pub within : ℕ → ℕ → ℕ → Bool
@@ -65,14 +65,14 @@ abbrev pub among : List ℕ → ℕ → Bool
 among [] n = false
 among (x ∷ l) n = eqb n x || among l n
 
--- "Placed at the tail of p" means after every task with active at least p;
+-- "Placed at the tail of p" means after every task with active at least p; in an ordered line, that is before the first below p.
 abbrev pub at-tail : (ℕ → ℕ) → ℕ → ℕ → List ℕ → List ℕ
 at-tail active p t l = place (λ y. ltb (active y) p) t l
 
--- "at the head of p" means after every task with active above p, which is at least p + 1.
+-- "At the head of p" means after every task with active above p, that is, of at least p + 1.
 abbrev pub at-head : (ℕ → ℕ) → ℕ → ℕ → List ℕ → List ℕ
 at-head active p t l = at-tail active (suc p) t l
 
--- The delay line, of entries (time, task), is ordered by time, equal times by order of entry.
+-- The delay line, of entries (time, task), is ordered by time, equal times by order of entry. (proofs/Placing has all three as theorems.)
 abbrev pub by-time : ℕ × ℕ → List (ℕ × ℕ) → List (ℕ × ℕ)
 by-time e l = place (λ f. ltb (e .0) (f .0)) e l

@@ -8,26 +8,19 @@ use Rattle.rules.specs.Line.{at, front}
 
 -- Tables are indexed by the task 0..31 or by the object 0..7. Task 0 is idle; object 0 is the null object, which is never declared.
 pub record Machine : Type 0 where
-  -- each task's base priority: 0 for idle, and for a task that is not created
-  pub base : List ℕ
-  -- each object's ceiling: 0 for one that is not declared
-  pub ceiling : List ℕ
-  -- the object that each task holds: 0 for none
-  pub held : List ℕ
-  -- the way in which it holds it: for-body, for-entry, or 0 for none
-  pub way : List ℕ
-  -- the tasks that wait on each object, first come first
-  pub queue : List (List ℕ)
-  -- the ready tasks, highest active priority first
-  pub ready : List ℕ
-  -- the delayed tasks, each with its time before it
-  pub delay : List (ℕ × ℕ)
+  pub base : List ℕ  -- each task's base priority: 0 for idle, and for a task that is not created
+  pub ceiling : List ℕ  -- each object's ceiling: 0 for one that is not declared
+  pub held : List ℕ  -- the object that each task holds: 0 for none
+  pub way : List ℕ  -- how it holds it: for-open, for-entry, or 0 for not at all
+  pub queue : List (List ℕ)  -- the tasks that wait on each object: at most one in a sound state, but a list, for longer queues are to come
+  pub ready : List ℕ  -- the ready tasks, highest active priority first
+  pub delay : List (ℕ × ℕ)  -- the delayed tasks, each with its time before it
   pub clock : ℕ
   pub started : Bool
 
--- held for a procedure or function, which op 7 begins and ops 8 and 9 end; or for an entry, which op 10 begins and op 11 ends
-abbrev pub for-body : ℕ
-for-body = 1
+-- held for a procedure or function (7 begins it, 8 and 9 end it), or for an entry (10 begins it, 11 ends it)
+abbrev pub for-open : ℕ
+for-open = 1
 
 abbrev pub for-entry : ℕ
 for-entry = 2
@@ -43,23 +36,20 @@ created m t = eqb t 0 || not (eqb (at (m .base) t) 0)
 abbrev pub declared : Machine → ℕ → Bool
 declared m o = not (eqb (at (m .ceiling) o) 0)
 
--- t holds nothing
-abbrev pub free : Machine → ℕ → Bool
-free m t = eqb (at (m .held) t) 0
+-- holds nothing
+abbrev pub empty-handed : Machine → ℕ → Bool
+empty-handed m t = eqb (at (m .held) t) 0
 
 -- Active priority is the ceiling of the object held, else the base.
-abbrev pub active : List ℕ → List ℕ → List ℕ → ℕ → ℕ
-active base ceiling held t = cond (eqb (at held t) 0) (at base t) (at ceiling (at held t))
-
-abbrev pub act : Machine → ℕ → ℕ
-act m = active (m .base) (m .ceiling) (m .held)
+abbrev pub active : Machine → ℕ → ℕ
+active m t = cond (empty-handed m t) (at (m .base) t) (at (m .ceiling) (at (m .held) t))
 
 -- the tasks of the delay line
 abbrev pub tasks : List (ℕ × ℕ) → List ℕ
 tasks [] = []
 tasks (e ∷ l) = e .1 ∷ tasks l
 
--- After Start the front of the ready line is the running task.
+-- The front of the ready line: after Start the running task.
 abbrev pub runner : Machine → ℕ
 runner m = front 0 (m .ready)
 
@@ -67,7 +57,7 @@ runner m = front 0 (m .ready)
 abbrev pub running : Machine → ℕ
 running m = cond (m .started) (runner m) 0
 
--- A command: any numbers. An op that is not 1..11 is refused, never unrepresentable.
+-- A command is any four numbers: what is no op, or no operand of it, is refused and never unrepresentable.
 pub record Command : Type 0 where
   pub op : ℕ
   pub a : ℕ

@@ -1,16 +1,16 @@
 -- The numbers of refusal 2 to 13: a test for each, under its sentence, in their order.
--- (1, Shape, is the test of Sound, which comes before them all.)
+-- 1, Shape, comes before them all, and is tested where a state comes in: these are of a sound state. What stands in [ ] is tested elsewhere.
 use Prim.Native.Nat.{ℕ, _+_, _^_}
 use mathlib.Core.Bool.{Bool, true, false, cond, not, _&&_, _||_}
 use mathlib.Core.List.{List, [], _∷_}
 use lib.Dec.{eqb, leb, ltb}
 use lib.ListN.{getD}
 use Rattle.rules.specs.Line.{at, count, empty, within, among}
-use Rattle.rules.specs.Machine.{Machine, Command, created, declared, free, runner, for-body, for-entry}
+use Rattle.rules.specs.Machine.{Machine, Command, created, declared, empty-handed, runner, for-open, for-entry}
 
--- What an operand may be. A time has the 64 bits that every caller of ours has for a value.
+-- What an operand may be. (A priority may be a ceiling. Ticks are bounded by 13.)
 pub data Operand : Type 0 where
-  unused task object priority barrier time : Operand
+  unused task object priority barrier time ticks : Operand
 
 abbrev pub fits : Operand → ℕ → Bool
 fits unused n = eqb n 0
@@ -19,7 +19,9 @@ fits object n = within 1 7 n
 fits priority n = within 1 15 n
 fits barrier n = leb n 1
 fits time n = ltb n (2 ^ 64)
+fits ticks n = true
 
+-- The operands in use, of each op 1..11.
 pub record Operands : Type 0 where
   pub a : Operand
   pub b : Operand
@@ -28,22 +30,21 @@ pub record Operands : Type 0 where
 abbrev uses : Operand → Operand → Operand → Operands
 uses a b value = record { a = a; b = b; value = value }
 
--- The operands in use: a, b and value of each op 1..11.
 abbrev pub operands : ℕ → Operands
 operands op =
     getD
-    (uses unused unused unused ∷
-    uses task priority unused ∷
-    uses object priority unused ∷
-    uses unused unused unused ∷
-    uses unused unused time ∷
-    uses unused unused unused ∷
-    uses unused unused time ∷
-    uses object unused unused ∷
-    uses object barrier unused ∷
-    uses object unused unused ∷
-    uses object barrier unused ∷
-    uses object unused unused ∷ [])
+    (uses unused unused unused ∷  -- no op
+    uses task priority unused ∷  -- 1 create
+    uses object priority unused ∷  -- 2 object
+    uses unused unused unused ∷  -- 3 start
+    uses unused unused time ∷  -- 4 delay
+    uses unused unused unused ∷  -- 5 wake
+    uses unused unused ticks ∷  -- 6 advance
+    uses object unused unused ∷  -- 7 open
+    uses object barrier unused ∷  -- 8 closep
+    uses object unused unused ∷  -- 9 closef
+    uses object barrier unused ∷  -- 10 entry
+    uses object unused unused ∷ [])  -- 11 done
     op (uses unused unused unused)
 
 -- a known op, and each operand what it may be
@@ -58,24 +59,25 @@ holds-so m o w = eqb (at (m .held) (runner m)) o && eqb (at (m .way) (runner m))
 abbrev pub checks : Machine → Command → List (Bool × ℕ)
 checks m c =
     -- 4 Range: unknown op; a task not 1..31, an object not 1..7, a priority or ceiling not 1..15; barrier above 1; an unused operand not 0
+    -- (and, beyond the paper, a delay until 2^64 or later, which no caller of ours can ask for)
     (not (formed c), 4) ∷
-    -- 2 Early: ops 4..11 before Start
+    -- 2 Early: ops 4..11 [or a draw] before Start
     (within 4 11 (c .op) && not (m .started), 2) ∷
     -- 3 Late: ops 1..3 after Start
     (within 1 3 (c .op) && m .started, 3) ∷
     -- 5 Taken: task or object set up before
     (eqb (c .op) 1 && created m (c .a) || eqb (c .op) 2 && declared m (c .a), 5) ∷
-    -- 6 Missing: object not set up
+    -- 6 Missing: object, [or task asked about,] not set up
     (within 7 11 (c .op) && not (declared m (c .a)), 6) ∷
     -- 7 Idle: ops 4 and 7..11 while task 0 runs
     ((eqb (c .op) 4 || within 7 11 (c .op)) && eqb (runner m) 0, 7) ∷
     -- 8 Inside: ops 4, 7, 10 while the runner holds an object
-    (among (4 ∷ 7 ∷ 10 ∷ []) (c .op) && not (free m (runner m)), 8) ∷
+    (among (4 ∷ 7 ∷ 10 ∷ []) (c .op) && not (empty-handed m (runner m)), 8) ∷
     -- 9 Outside: closing an object the runner does not hold, or holds in the other way (8, 9 end an open; 11 ends an entry)
-    (among (8 ∷ 9 ∷ []) (c .op) && not (holds-so m (c .a) for-body) || eqb (c .op) 11 && not (holds-so m (c .a) for-entry), 9) ∷
-    -- 10 Ceiling: the runner's base is above the ceiling (of the object that 7 or 10 would take)
+    (among (8 ∷ 9 ∷ []) (c .op) && not (holds-so m (c .a) for-open) || eqb (c .op) 11 && not (holds-so m (c .a) for-entry), 9) ∷
+    -- 10 Ceiling: the runner's base is above the ceiling (of the object that ops 7 and 10 would take)
     (among (7 ∷ 10 ∷ []) (c .op) && ltb (at (m .ceiling) (c .a)) (at (m .base) (runner m)), 10) ∷
-    -- 11 Held: another task holds the object (for behind 8 the runner holds none)
+    -- 11 Held: another task holds the object (8 came first, so the runner holds none)
     (among (7 ∷ 10 ∷ []) (c .op) && leb 1 (count (c .a) (m .held)), 11) ∷
     -- 12 Queue: entry with barrier 0 while a task waits there
     (eqb (c .op) 10 && eqb (c .b) 0 && not (empty (getD (m .queue) (c .a) [])), 12) ∷

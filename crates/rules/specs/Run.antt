@@ -1,4 +1,5 @@
--- A step with its answer, runs of any commands, and the question "Wakes left".
+-- A step with its answer, runs of any commands, and the question "Wakes left": of a sound machine.
+-- (Where a state comes in from outside, one that is not sound is answered 1, running 0, released 0 and the very state that came in.)
 use Prim.Native.Nat.{ℕ, suc}
 use mathlib.Core.Bool.{Bool, true, false, cond, not, _&&_, _||_}
 use mathlib.Core.List.{List, [], _∷_}
@@ -49,12 +50,12 @@ ahead t (e ∷ l) = cond (eqb (e .1) t) 0 (suc (ahead t l))
 unfoldable pub wakes-left : Machine → ℕ → ℕ
 wakes-left m t = cond (is-due (m .clock) t (m .delay)) (suc (ahead t (m .delay))) 0
 
--- It is asked over a task 1..31 (4) that is set up (6). A refusal answers its number and 0.
-pub record Count : Type 0 where
+-- The question has the checks 4, over a task 1..31, and 6, the task asked about not set up. A refusal answers its number and 0.
+pub record Left : Type 0 where
   pub code : ℕ
   pub left : ℕ
 
-unfoldable pub question : Machine → ℕ → Count
+unfoldable pub question : Machine → ℕ → Left
 question m t =
     cond (not (within 1 31 t)) (record { code = 4; left = 0 })
     (cond (not (created m t)) (record { code = 6; left = 0 })

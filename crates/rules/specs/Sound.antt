@@ -4,8 +4,8 @@ use mathlib.Core.Bool.{Bool, true, false, cond, not, _&&_, _||_}
 use mathlib.Core.List.{List, [], _∷_}
 use lib.Dec.{eqb, leb, ltb}
 use lib.ListN.{getD, length}
-use Rattle.rules.specs.Line.{at, count, empty, every, neighbours, below, within, one-if}
-use Rattle.rules.specs.Machine.{Machine, act, tasks, created, declared, free, for-body, for-entry}
+use Rattle.rules.specs.Line.{at, count, empty, every, neighbours, all-below, among, one-if}
+use Rattle.rules.specs.Machine.{Machine, active, tasks, created, declared, empty-handed, for-open, for-entry}
 
 -- how often t waits
 abbrev pub waits : ℕ → List (List ℕ) → ℕ
@@ -13,8 +13,8 @@ waits t [] = 0
 waits t (q ∷ l) = count t q + waits t l
 
 -- how often t stands in ready, delayed and waiting together
-abbrev pub places : Machine → ℕ → ℕ
-places m t = count t (m .ready) + count t (tasks (m .delay)) + waits t (m .queue)
+abbrev pub standings : Machine → ℕ → ℕ
+standings m t = count t (m .ready) + count t (tasks (m .delay)) + waits t (m .queue)
 
 -- tasks 0..31, objects 0..7; the clock and delay times run over 0..2^64-1
 abbrev pub tables-sized : Machine → Bool
@@ -25,46 +25,48 @@ in-time m = ltb (m .clock) (2 ^ 64) && every (λ e. ltb (e .0) (2 ^ 64)) (m .del
 
 -- task 0 is created with base 0, ready, holding nothing (created it always is)
 abbrev pub idle-ready : Machine → Bool
-idle-ready m = eqb (at (m .base) 0) 0 && leb 1 (count 0 (m .ready)) && free m 0
+idle-ready m = eqb (at (m .base) 0) 0 && leb 1 (count 0 (m .ready)) && empty-handed m 0
 
--- each created task stands in exactly one of ready, delayed, waiting, and once there; no other task stands anywhere
+-- numbers of tasks
 abbrev pub tasks-only : List ℕ → Bool
 tasks-only l = every (λ t. ltb t 32) l
 
+-- each created task stands in exactly one of ready, delayed, waiting, and once there; no other task stands anywhere
 abbrev pub stand-once : Machine → Bool
-stand-once m = below 32 (λ t. eqb (places m t) (one-if (created m t))) && tasks-only (m .ready) && tasks-only (tasks (m .delay)) && every tasks-only (m .queue)
+stand-once m = all-below 32 (λ t. eqb (standings m t) (one-if (created m t))) && tasks-only (m .ready) && tasks-only (tasks (m .delay)) && every tasks-only (m .queue)
 
 -- both lines are in order
 abbrev pub in-order : Machine → Bool
-in-order m = neighbours (λ a b. leb (act m b) (act m a)) (m .ready) && neighbours (λ e f. leb (e .0) (f .0)) (m .delay)
+in-order m = neighbours (λ a b. leb (active m b) (active m a)) (m .ready) && neighbours (λ e f. leb (e .0) (f .0)) (m .delay)
 
--- bases and ceilings are in range: 1..15, with 0 for what is not there, as task 0 and object 0
+-- bases and ceilings are in range: 1..15, or 0, which is idle's base and stands for what is not set up; object 0 never is
 abbrev pub in-range : Machine → Bool
 in-range m = every (λ p. leb p 15) (m .base) && every (λ p. leb p 15) (m .ceiling) && not (declared m 0)
 
--- a task holds at most one object, and that in one of the two ways
+-- a task holds at most one object (its table has one place for it), and that in one of the two ways
 abbrev pub hold-one : Machine → Bool
-hold-one m = below 32 (λ t. cond (free m t) (eqb (at (m .way) t) 0) (within for-body for-entry (at (m .way) t)))
+hold-one m = all-below 32 (λ t. cond (empty-handed m t) (eqb (at (m .way) t) 0) (among (for-open ∷ for-entry ∷ []) (at (m .way) t)))
 
 -- each object is held by at most one task and waited on by at most one
 abbrev pub one-each : Machine → Bool
-one-each m = below 8 (λ o. eqb o 0 || leb (count o (m .held)) 1) && every (λ q. leb (length q) 1) (m .queue)
+one-each m = all-below 8 (λ o. eqb o 0 || leb (count o (m .held)) 1) && every (λ q. leb (length q) 1) (m .queue)
 
 -- a holder is ready
 abbrev pub holders-ready : Machine → Bool
-holders-ready m = below 32 (λ t. free m t || leb 1 (count t (m .ready)))
+holders-ready m = all-below 32 (λ t. empty-handed m t || leb 1 (count t (m .ready)))
 
--- holder and waiter have base at most the ceiling of a declared object
+-- the task has base at most the ceiling of the object, which is declared
 abbrev pub admits : Machine → ℕ → ℕ → Bool
 admits m o t = declared m o && leb (at (m .base) t) (at (m .ceiling) o)
 
+-- holder and waiter have base at most the ceiling of a declared object (so nobody waits on object 0)
 abbrev pub all-admitted : Machine → Bool
-all-admitted m = below 32 (λ t. free m t || admits m (at (m .held) t) t) && below 8 (λ o. every (admits m o) (getD (m .queue) o []))
+all-admitted m = all-below 32 (λ t. empty-handed m t || admits m (at (m .held) t) t) && all-below 8 (λ o. every (admits m o) (getD (m .queue) o []))
 
 -- before Start the clock is 0 and nothing is delayed, waiting or held
-abbrev pub calm : Machine → Bool
-calm m = m .started || eqb (m .clock) 0 && empty (m .delay) && every (λ q. empty q) (m .queue) && every (λ o. eqb o 0) (m .held)
+abbrev pub quiet-before-start : Machine → Bool
+quiet-before-start m = m .started || eqb (m .clock) 0 && empty (m .delay) && every (λ q. empty q) (m .queue) && every (λ o. eqb o 0) (m .held)
 
 unfoldable pub sound : Machine → Bool
 sound m =
-    tables-sized m && in-time m && idle-ready m && stand-once m && in-order m && in-range m && hold-one m && one-each m && holders-ready m && all-admitted m && calm m
+    tables-sized m && in-time m && idle-ready m && stand-once m && in-order m && in-range m && hold-one m && one-each m && holders-ready m && all-admitted m && quiet-before-start m

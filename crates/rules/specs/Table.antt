@@ -5,41 +5,30 @@ use mathlib.Core.Bool.{Bool, true, false, cond, not, _&&_}
 use mathlib.Core.List.{List, [], _∷_, _++_}
 use lib.Dec.{eqb, leb, ltb}
 use lib.ListN.{getD, set}
-use Rattle.rules.specs.Line.{at, front, tail, empty, first-alone, at-tail, at-head, by-time}
-use Rattle.rules.specs.Machine.{Machine, Command, act, runner, tasks, for-body, for-entry}
+use Rattle.rules.specs.Line.{at, front, rest, empty, first-alone, at-tail, at-head, by-time}
+use Rattle.rules.specs.Machine.{Machine, Command, active, runner, tasks, for-open, for-entry}
 
--- Where the runner goes.
+-- The way out of the runner: where it goes.
 pub data Out : Type 0 where
-  -- it stays where it is
-  same : Out
-  -- it holds the object, in that way, and stays where it is: it is the front, and its active priority only rises
-  take : ℕ → ℕ → Out
-  -- to the tail of its base
-  yield : Out
-  -- it holds nothing, and goes to the head of its base
-  close : Out
-  -- into the delay line, until that time
-  sleep : ℕ → Out
-  -- out of the line, to wait on the object
-  await : ℕ → Out
+  same : Out  -- it stays where it is
+  take : ℕ → ℕ → Out  -- it holds the object, in that way, and stays where it is: it is the front, and its active priority only rises
+  yield : Out  -- to the tail of its base
+  close : Out  -- it holds nothing, and goes to the head of its base
+  sleep : ℕ → Out  -- into the delay line, until that time
+  await : ℕ → Out  -- out of the line, to wait on the object
 
--- Who is released.
+-- The release: who is released, if anyone.
 pub data Rel : Type 0 where
   none : Rel
-  -- the first of the delay line
-  due : Rel
-  -- the first that waits on the object: nobody, if none does
-  serve : ℕ → Rel
+  due : Rel  -- the first of the delay line (a row asks for it only where that is due)
+  serve : ℕ → Rel  -- the first that waits on the object: nobody, if none does
 
 pub data Effect : Type 0 where
-  -- of what is no op
-  nothing : Effect
-  -- a task and its base; an object and its ceiling
-  creates : ℕ → ℕ → Effect
+  nothing : Effect  -- of what is no op
+  creates : ℕ → ℕ → Effect  -- a task and its base; an object and its ceiling
   declares : ℕ → ℕ → Effect
   begins : Effect
-  -- where the runner goes, who is released, and by how much the clock grows
-  moves : Out → Rel → ℕ → Effect
+  moves : Out → Rel → ℕ → Effect  -- where the runner goes, who is released, and by how much the clock grows
 
 -- the first delay entry's time is at most the clock
 abbrev pub first-due : Machine → Bool
@@ -64,7 +53,7 @@ effect m c =
     -- 6 advance value=ticks: the clock grows by that much; 0 is allowed
     moves same none (c .value) ∷
     -- 7 open a=object: the runner holds it, for a procedure or function
-    moves (take (c .a) for-body) none 0 ∷
+    moves (take (c .a) for-open) none 0 ∷
     -- 8 closep a=object b=barrier: if b is 1 and a task waits on the object, it goes to the tail of its base and is released;
     -- then the runner holds nothing and goes to the head of its base
     moves close (cond (eqb (c .b) 1) (serve (c .a)) none) 0 ∷
@@ -77,7 +66,7 @@ effect m c =
     moves close none 0 ∷ [])
     (c .op) nothing
 
--- The machine with other set-up, with other lines, with other hands, and some ticks later.
+-- The machine with other bases and ceilings, started or not; with other lines; with other objects held; and some ticks later.
 abbrev pub with-set-up : Machine → List ℕ → List ℕ → Bool → Machine
 with-set-up m base ceiling started =
     record { base = base; ceiling = ceiling; held = m .held; way = m .way; queue = m .queue; ready = m .ready; delay = m .delay; clock = m .clock; started = started }
@@ -94,7 +83,7 @@ abbrev pub later : Machine → ℕ → Machine
 later m n =
     record { base = m .base; ceiling = m .ceiling; held = m .held; way = m .way; queue = m .queue; ready = m .ready; delay = m .delay; clock = m .clock + n; started = m .started }
 
--- The released tasks, at most one of them. Each goes to the tail of its base.
+-- The released task goes to the tail of its base. (A list, of at most one: more than one is to come.)
 abbrev pub freed : Rel → Machine → List ℕ
 freed none m = []
 freed due m = first-alone (tasks (m .delay))
@@ -102,29 +91,31 @@ freed (serve o) m = first-alone (getD (m .queue) o [])
 
 abbrev pub enter : Machine → List ℕ → List ℕ → List ℕ
 enter m [] l = l
-enter m (t ∷ ts) l = enter m ts (at-tail (act m) (at (m .base) t) t l)
+enter m (t ∷ ts) l = enter m ts (at-tail (active m) (at (m .base) t) t l)
 
 unfoldable pub release : Rel → Machine → Machine
 release none m = m
-release due m = with-lines m (enter m (freed due m) (m .ready)) (tail (m .delay)) (m .queue)
-release (serve o) m = with-lines m (enter m (freed (serve o) m) (m .ready)) (m .delay) (set (m .queue) o (tail (getD (m .queue) o [])))
+release due m = with-lines m (enter m (freed due m) (m .ready)) (rest (m .delay)) (m .queue)
+release (serve o) m = with-lines m (enter m (freed (serve o) m) (m .ready)) (m .delay) (set (m .queue) o (rest (getD (m .queue) o [])))
 
--- Then the runner, the front of the line, goes its way. It is placed by the active priorities that it leaves behind.
+-- Then the runner goes its way, and is placed by the active priorities that the tasks then have.
+-- (It is the front of the line still: whom closep releases has a base of at most the ceiling. proofs/Accepted, runner-stays.)
 unfoldable pub leave : Out → Machine → Machine
 leave same m = m
 leave (take o w) m = with-hands m (set (m .held) (runner m) o) (set (m .way) (runner m) w)
-leave yield m = with-lines m (at-tail (act m) (at (m .base) (runner m)) (runner m) (tail (m .ready))) (m .delay) (m .queue)
+leave yield m = with-lines m (at-tail (active m) (at (m .base) (runner m)) (runner m) (rest (m .ready))) (m .delay) (m .queue)
 leave close m =
     let n = with-hands m (set (m .held) (runner m) 0) (set (m .way) (runner m) 0) in
-    with-lines n (at-head (act n) (at (m .base) (runner m)) (runner m) (tail (m .ready))) (m .delay) (m .queue)
-leave (sleep d) m = with-lines m (tail (m .ready)) (by-time (d, runner m) (m .delay)) (m .queue)
-leave (await o) m = with-lines m (tail (m .ready)) (m .delay) (set (m .queue) o (getD (m .queue) o [] ++ (runner m ∷ [])))
+    with-lines n (at-head (active n) (at (m .base) (runner m)) (runner m) (rest (m .ready))) (m .delay) (m .queue)
+leave (sleep d) m = with-lines m (rest (m .ready)) (by-time (d, runner m) (m .delay)) (m .queue)
+leave (await o) m = with-lines m (rest (m .ready)) (m .delay) (set (m .queue) o (getD (m .queue) o [] ++ (runner m ∷ [])))
 
+-- Carrying a row out: first the release, then the runner's way out, then the clock.
 unfoldable pub carry : Machine → Effect → Machine
 carry m nothing = m
 carry m (creates t p) =
     let n = with-set-up m (set (m .base) t p) (m .ceiling) (m .started) in
-    with-lines n (at-tail (act n) p t (m .ready)) (m .delay) (m .queue)
+    with-lines n (at-tail (active n) p t (m .ready)) (m .delay) (m .queue)
 carry m (declares o p) = with-set-up m (m .base) (set (m .ceiling) o p) (m .started)
 carry m begins = with-set-up m (m .base) (m .ceiling) true
 carry m (moves out rel n) = later (leave out (release rel m)) n

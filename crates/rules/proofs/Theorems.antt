@@ -1,0 +1,97 @@
+-- What is promised of document 01's machine, each in plain words and then in antt, over every list of commands: unknown ops, bad operands,
+-- refused commands and all. Beside each: which wrong machines it rules out, and which it leaves to another. The proofs are in the files
+-- that are named; `run fresh before` is the state behind any commands whatever. Assumes nothing.
+use Prim.Native.Nat.{ℕ, zero, suc, _+_, _-_, _≤_, _<_}
+use native.Mathlib.Omega.{arith}
+use mathlib.Core.Path.{_≡_, refl, sym, ap, _∙_}
+use mathlib.Core.Logic.{_≢_, _↔_}
+use mathlib.Core.Bool.{Bool, true, false}
+use mathlib.Core.List.{List, [], _∷_}
+use Rattle.rules.specs.Line.{at}
+use Rattle.rules.specs.Machine.{Machine, Command, fresh, running, runner}
+use Rattle.rules.specs.Sound.{sound}
+use Rattle.rules.specs.Run.{next, released, answer, run, answers, wakes-left}
+use Rattle.rules.proofs.Words.{All, moments, wakes, wakes-in, DueAt, Clear}
+use Rattle.rules.proofs.Sounds.{Sound, tests-sound}
+use Rattle.rules.proofs.Step.{next-sound, run-sound, fresh-test, fresh-sound}
+use Rattle.rules.proofs.Wakes.{keeps-its-turn, at-wake, left-is-due, due-is-left}
+use Rattle.rules.proofs.Clear.{next-clear, run-clear, fresh-clear}
+use Rattle.rules.proofs.Release.{released-behind, lower-runs, next-tables}
+
+-- ## Sound states
+-- The fresh machine is sound; a step from a sound state leaves a sound state: by the test that the step itself makes.
+-- Rules out: a place given to a task twice or to none, a holder that is put to sleep, a line out of order, a clock past its end.
+-- Leaves: a machine that refuses all, or does nothing (the op table, Table.antt, and the walk).
+pub fresh-is-sound : sound fresh ≡ true
+fresh-is-sound = fresh-test
+
+pub step-keeps-sound : (m : Machine) (c : Command) → sound m ≡ true → sound (next m c) ≡ true
+step-keeps-sound m c e = tests-sound (next m c) .found (next-sound m (tests-sound m .sure e) c)
+
+pub run-is-sound : (cs : List Command) → sound (run fresh cs) ≡ true
+run-is-sound cs = tests-sound (run fresh cs) .found (run-sound cs fresh fresh-sound)
+
+-- ## The promise on Wakes
+-- Whenever task t stands at index r of the delay line with its time at most the clock: count the accepted Wakes after that moment. While
+-- there are at most r of them, t stays in the line, at index r less their count, and no answer releases it; and the (r+1)th of them does.
+-- Rules out: a past delay at the front of the line, ties in the wrong order before a due task, a Wake that skips or drops an entry, a
+-- machine that works once and then pretends. Leaves: one that refuses every Wake (2 and 4 alone refuse it: Refusals.antt and the walk).
+pub wakes-promise : (before after : List Command) (t r : ℕ) → let m = run fresh before in
+    DueAt m t r → wakes-in m after ≤ r
+    → DueAt (run m after) t (r - wakes-in m after) × All (λ a. a .released ≢ t) (answers m after)
+wakes-promise before after t r d k = keeps-its-turn after (run fresh before) (run-sound before fresh fresh-sound) t r d k
+
+pub wakes-promise-kept : (before after : List Command) (t r : ℕ) (c : Command) → let m = run fresh before in
+    DueAt m t r → wakes-in m after ≡ r → wakes (run m after) c ≡ true → answer (run m after) c .released ≡ t
+unfolding answer
+wakes-promise-kept before after t r c d k w =
+    let m = run fresh before in
+    let s = run-sound before fresh fresh-sound in
+    let i = keeps-its-turn after m s t r d (omega arith) in
+    let z : r - wakes-in m after ≡ 0 = omega arith in
+    at-wake (run m after) (run-sound after m s) t c w 0 (rw z at (i .0))
+
+-- "Wakes left" is that count: its answer r + 1 says that t is due at index r, and so that the (r+1)th accepted Wake releases it; its answer
+-- 0, that t is due at none. A made-up number falls to the release above.
+pub wakes-left-says : (before : List Command) (t r : ℕ) → let m = run fresh before in (wakes-left m t ≡ suc r) ↔ DueAt m t r
+wakes-left-says before t r = let s = run-sound before fresh fresh-sound in (left-is-due (run fresh before) s t r, due-is-left (run fresh before) s t r)
+
+pub none-left-says : (before : List Command) (t : ℕ) → let m = run fresh before in (wakes-left m t ≡ 0) ↔ ((r : ℕ) → DueAt m t r → ⊥)
+none-left-says before t = (λ e r d. omega (arith, due-is-left m s t r d), λ f. go (wakes-left m t) refl f)
+  where
+    m : Machine
+    m = run fresh before
+
+    s : Sound m
+    s = run-sound before fresh fresh-sound
+
+    go : (n : ℕ) → wakes-left m t ≡ n → ((r : ℕ) → DueAt m t r → ⊥) → wakes-left m t ≡ 0
+    go zero e f = e
+    go (suc r) e f = absurd (f r (left-is-due m s t r e))
+
+-- ## The invariant
+-- Where a task holds an object of ceiling c, every task ahead of it in the ready line has a base above c.
+-- It is not true of every sound state, but every step keeps it.
+pub fresh-is-clear : Clear fresh
+fresh-is-clear = fresh-clear
+
+pub step-keeps-clear : (m : Machine) (c : Command) → sound m ≡ true → Clear m → Clear (next m c)
+step-keeps-clear m c e k = next-clear m (tests-sound m .sure e) k c
+
+-- ## The promise on releases
+-- Whenever a command releases task t: there is one task `low` and one object such that, at every later moment at which t has not run yet
+-- (the moment of the release among them), if a task of a base below t's runs, then it is `low`; it held that object at the release, and
+-- has held it at every moment since, so it has closed it at none of the commands between.
+-- `low` and the object are found at the release, before any later command is known: so the tasks of lower base that run at any two such
+-- moments are one task. Equal base is not lower. Idle holds nothing, so it does not run: see below.
+-- Rules out: a released task of equal base in front, a closing runner that keeps its place, a second low task in between.
+-- Leaves: one that releases nobody (the op table and the walk).
+pub release-promise : (before : List Command) (c : Command) → let m = run fresh before in let now = next m c in let t = released m c in
+    t ≢ 0 → (low : ℕ) × (object : ℕ) × ((after : List Command) → All (λ s. running s ≢ t) (moments now after)
+    → let then = run now after in at (now .base) (running then) < at (now .base) t
+    → (running then ≡ low) × (object ≢ 0) × All (λ s. at (s .held) low ≡ object) (moments now after))
+release-promise before c n =
+    let m = run fresh before in
+    let s = run-sound before fresh fresh-sound in
+    let w = released-behind m s (run-clear before fresh fresh-sound fresh-clear) c n in
+    (w .0, at (m .held) (w .0), λ after k lt. lower-runs after (next m c) (next-sound m s c) (w .2) (released m c) (at (m .base) (released m c)) (w .0) (at (m .held) (w .0)) (w .1) k (rw (w .1 .rank) at lt))
