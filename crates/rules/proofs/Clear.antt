@@ -14,7 +14,7 @@ use Rattle.rules.specs.Run.{next, run}
 use Rattle.rules.proofs.Words.{All, Pairwise, Clear}
 use Rattle.rules.proofs.Lists.{all-map, all-both, all-every, pairwise-map, pairwise-rest, front-over, pairwise-front, tail-pairwise, tail-falls}
 use Rattle.rules.proofs.Sounds.{Sound, act-free, others}
-use Rattle.rules.proofs.Kept.{AllowedOut, freed-away, release-sound, new-held, other-held, act-with, act-other}
+use Rattle.rules.proofs.Kept.{AllowedOut, freed-away, release-sound, new-held, other-held, act-with, behind-falls}
 use Rattle.rules.proofs.SetUp.{nobody-holds}
 use Rattle.rules.proofs.Accepted.{Allowed}
 use Rattle.rules.proofs.Step.{Step, kept, carried, step, next-sound, fresh-sound, release-started}
@@ -53,9 +53,6 @@ module _ (m : Machine) (s : Sound m) (k : Pairwise (Over m) (m .ready)) where
   runner-over v =
       all-map (λ b w. same-over v (runner m) b (w .0) (w .1)) (rest (m .ready)) (all-both (λ b. b ≢ runner m) (λ b. Over m (runner m) b) (rest (m .ready)) (others m s) (front-over (Over m) 0 (m .ready) k))
 
-  falls-with : (v : ℕ) → Pairwise (λ a b. act-with m s v b ≤ act-with m s v a) (rest (m .ready))
-  falls-with v = pairwise-map {P = λ t. t ≢ runner m} (λ a b na nb w. omega (arith, act-other m s v a na, act-other m s v b nb)) (rest (m .ready)) (others m s) (pairwise-rest (λ a b. active m b ≤ active m a) (m .ready) (s .ready-falls))
-
   leave-clear : (out : Out) → AllowedOut m out → Pairwise (Over (leave out m)) (leave out m .ready)
   unfolding leave
   leave-clear same g = k
@@ -64,7 +61,7 @@ module _ (m : Machine) (s : Sound m) (k : Pairwise (Over m) (m .ready)) where
       tail-pairwise (Over m) (active m) (at (m .base) (runner m)) (runner m) (λ y c n. absurd (n (g .bare))) (rest (m .ready)) (pairwise-rest (λ a b. active m b ≤ active m a) (m .ready) (s .ready-falls))
       (all-every (λ y c n. c) (rest (m .ready))) (pairwise-rest (Over m) (m .ready) k)
   leave-clear close g =
-      tail-pairwise (Over-with 0) (act-with m s 0) (suc (at (m .base) (runner m))) (runner m) (λ y c n. absurd (n (new-held m s 0))) (rest (m .ready)) (falls-with 0)
+      tail-pairwise (Over-with 0) (act-with m s 0) (suc (at (m .base) (runner m))) (runner m) (λ y c n. absurd (n (new-held m s 0))) (rest (m .ready)) (behind-falls m s 0)
       (all-map (λ b w c. w) (rest (m .ready)) (runner-over 0)) (behind-clear 0)
   leave-clear (sleep d) g = pairwise-rest (Over m) (m .ready) k
   leave-clear (await o) g = pairwise-rest (Over m) (m .ready) k

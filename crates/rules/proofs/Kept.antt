@@ -215,7 +215,7 @@ module _ (m : Machine) (s : Sound m) where
   pub act-other : (v t : ℕ) → t ≢ runner m → act-with v t ≡ active m t
   act-other v t n = rw (other-held v t n)
 
-  behind-falls : (v : ℕ) → Pairwise (λ a b. act-with v b ≤ act-with v a) (rest (m .ready))
+  pub behind-falls : (v : ℕ) → Pairwise (λ a b. act-with v b ≤ act-with v a) (rest (m .ready))
   behind-falls v =
       pairwise-map {P = λ t. t ≢ runner m} (λ a b na nb w. omega (arith, act-other v a na, act-other v b nb)) (rest (m .ready)) (others m s) (pairwise-rest (λ a b. active m b ≤ active m a) (m .ready) (s .ready-falls))
 

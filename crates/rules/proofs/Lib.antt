@@ -11,4 +11,5 @@ pub mod Step
 pub mod Wakes
 pub mod Clear
 pub mod Release
+pub mod Goes
 pub mod Theorems

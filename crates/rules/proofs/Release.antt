@@ -11,13 +11,13 @@ use lib.Dec.{eqb, leb, ltb}
 use lib.ListN.{getD, set}
 use lib.Seq.{getD-set-other}
 use borrow.Author.Tests.{ltb-true, ltb-false, ne-eqb, le-ltb}
-use Rattle.rules.specs.Line.{at, front, rest, first-alone, place, at-tail}
+use Rattle.rules.specs.Line.{at, count, front, rest, first-alone, place, at-tail}
 use Rattle.rules.specs.Machine.{Machine, Command, active, runner, running, tasks}
 use Rattle.rules.specs.Table.{Out, same, take, yield, close, sleep, await, Rel, none, due, serve, Effect, nothing, creates, declares, begins, moves, effect, freed, freed-by, enter, later, release, leave, carry}
 use Rattle.rules.specs.Run.{next, released, run}
 use Rattle.rules.proofs.Words.{All, Pairwise, moments, Clear}
-use Rattle.rules.proofs.Lists.{all-map, eq-or-ne, lt-or-ge}
-use Rattle.rules.proofs.Sounds.{Sound, act-free, act-held, others, object-real}
+use Rattle.rules.proofs.Lists.{all-map, eq-or-ne, lt-or-ge, one-self}
+use Rattle.rules.proofs.Sounds.{Sound, act-free, based, others, object-real}
 use Rattle.rules.proofs.Kept.{AllowedOut, freed-away, release-sound, new-held, other-held, act-with, act-other}
 use Rattle.rules.proofs.Accepted.{Allowed}
 use Rattle.rules.proofs.Step.{Step, kept, carried, step, next-sound, moved-started}
@@ -275,7 +275,7 @@ next-tables m s on c = go (step m s c)
     go (carried e f w g) = rw e (by-effect (effect m c) g)
 
 -- From there on, as long as t has not run: a task of lower base that runs is that one, and has held its object all the way.
-first-moment : (P : Machine → Type 0) (cs : List Command) (m : Machine) → All P (moments m cs) → P m
+pub first-moment : (P : Machine → Type 0) (cs : List Command) (m : Machine) → All P (moments m cs) → P m
 unfolding moments
 first-moment P [] m h = h .0
 first-moment P (c ∷ cs) m h = h .0
@@ -307,3 +307,11 @@ lower-runs (c ∷ cs) m s on t p low o st k lt =
     let tb = next-tables m s on c in
     let i = lower-runs cs (next m c) (next-sound m s c) (st′ .1) t p low o (st′ .0) (k .1) (subst (λ (b : List ℕ). at b (running (run (next m c) cs)) < p) (sym (tb .0)) lt) in
     (i .0, i .1, (⊎-elim (λ (e : low ≡ runner m). holding-low m t p low o st n (rw (i .0, e) at lt) .1) (λ (d : low ≢ runner m). sym (tb .1 low d) ∙ first-moment (λ s. at (s .held) low ≡ o) cs (next m c) (i .2)) (eq-or-ne low (runner m)), i .2))
+
+-- a released task is not idle, so it has a base
+before-counts : {P : ℕ → Type 0} {t : ℕ} {l : List ℕ} → Before P t l → 1 ≤ count t l
+before-counts {t = t} here = omega (arith, one-self t)
+before-counts (there p k) = omega (arith, before-counts k)
+
+pub released-based : (m : Machine) → Sound m → Clear m → (c : Command) → released m c ≢ 0 → 1 ≤ at (next m c .base) (released m c)
+released-based m s k c n = let w = released-behind m s k c n in based (next m c) (next-sound m s c) (released m c) (omega (arith, before-counts (w .1 .before))) n

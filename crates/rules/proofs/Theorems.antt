@@ -7,6 +7,7 @@ use mathlib.Core.Path.{_≡_, refl, sym, ap, _∙_}
 use mathlib.Core.Logic.{_≢_, _↔_}
 use mathlib.Core.Bool.{Bool, true, false}
 use mathlib.Core.List.{List, [], _∷_}
+use lib.ListN.{replicate}
 use Rattle.rules.specs.Line.{at}
 use Rattle.rules.specs.Machine.{Machine, Command, fresh, running, runner}
 use Rattle.rules.specs.Sound.{sound}
@@ -14,9 +15,9 @@ use Rattle.rules.specs.Run.{next, released, answer, run, answers, wakes-
 use Rattle.rules.proofs.Words.{All, moments, wakes, wakes-in, DueAt, Clear}
 use Rattle.rules.proofs.Sounds.{Sound, tests-sound}
 use Rattle.rules.proofs.Step.{next-sound, run-sound, fresh-test, fresh-sound}
-use Rattle.rules.proofs.Wakes.{keeps-its-turn, at-wake, left-is-due, due-is-left}
+use Rattle.rules.proofs.Wakes.{a-wake, keeps-its-turn, at-wake, left-is-due, due-is-left, wakes-in-row, row-of-wakes, wake-takes-due}
 use Rattle.rules.proofs.Clear.{next-clear, run-clear, fresh-clear}
-use Rattle.rules.proofs.Release.{released-behind, lower-runs, next-tables}
+use Rattle.rules.proofs.Release.{released-behind, released-based, lower-runs, first-moment}
 
 -- ## Sound states
 -- The fresh machine is sound; a step from a sound state leaves a sound state: by the test that the step itself makes.
@@ -69,6 +70,18 @@ none-left-says before t = (λ e r d. omega (arith, due-is-left m s t r d), λ f.
     go zero e f = e
     go (suc r) e f = absurd (f r (left-is-due m s t r e))
 
+-- Told from outside, after Start: the answer is r + 1 exactly if, of Wakes that follow one another, the (r+1)th releases t. And a Wake
+-- releases none but a due task.
+pub wakes-left-seen : (before : List Command) (t r : ℕ) → let m = run fresh before in m .started ≡ true → t ≢ 0
+    → (wakes-left m t ≡ suc r) ↔ (released (run m (replicate r a-wake)) a-wake ≡ t)
+wakes-left-seen before t r on n =
+    let m = run fresh before in
+    let s = run-sound before fresh fresh-sound in
+    (λ e. wakes-in-row r m s on t (left-is-due m s t r e), λ e. due-is-left m s t r (row-of-wakes r m s on t n e))
+
+pub wake-releases-due : (before : List Command) (c : Command) → let m = run fresh before in wakes m c ≡ true → released m c ≢ 0 → DueAt m (released m c) 0
+wake-releases-due before c w n = wake-takes-due (run fresh before) (run-sound before fresh fresh-sound) c w n
+
 -- ## The invariant
 -- Where a task holds an object of ceiling c, every task ahead of it in the ready line has a base above c.
 -- It is not true of every sound state, but every step keeps it.
@@ -95,3 +108,22 @@ release-promise before c n =
     let s = run-sound before fresh fresh-sound in
     let w = released-behind m s (run-clear before fresh fresh-sound fresh-clear) c n in
     (w .0, at (m .held) (w .0), λ after k lt. lower-runs after (next m c) (next-sound m s c) (w .2) (released m c) (at (m .base) (released m c)) (w .0) (at (m .held) (w .0)) (w .1) k (rw (w .1 .rank) at lt))
+
+-- The same of two moments: whoever of lower base runs at the end of one way on from the release, and of another, is one task.
+pub one-lower-task : (before : List Command) (c : Command) (to-i to-j : List Command) → let m = run fresh before in let now = next m c in let t = released m c in
+    t ≢ 0 → All (λ s. running s ≢ t) (moments now to-i) → All (λ s. running s ≢ t) (moments now to-j)
+    → at (now .base) (running (run now to-i)) < at (now .base) t → at (now .base) (running (run now to-j)) < at (now .base) t
+    → running (run now to-i) ≡ running (run now to-j)
+one-lower-task before c to-i to-j n ki kj li lj = let w = release-promise before c n in w .2 to-i ki li .0 ∙ sym (w .2 to-j kj lj .0)
+
+-- Idle, which holds nothing, runs at no such moment.
+pub idle-does-not-run : (before : List Command) (c : Command) (after : List Command) → let m = run fresh before in let now = next m c in let t = released m c in
+    t ≢ 0 → All (λ s. running s ≢ t) (moments now after) → running (run now after) ≢ 0
+idle-does-not-run before c after n k e =
+    let m = run fresh before in
+    let now = next m c in
+    let s : Sound now = next-sound m (run-sound before fresh fresh-sound) c in
+    let b : 1 ≤ at (now .base) (released m c) = released-based m (run-sound before fresh fresh-sound) (run-clear before fresh fresh-sound fresh-clear) c n in
+    let w = release-promise before c n in
+    let i = w .2 after k (rw e (omega (arith, s .idle-base))) in
+    i .1 (sym (first-moment (λ x. at (x .held) (w .0) ≡ w .1) after now (i .2)) ∙ (ap (at (now .held)) (sym (i .0) ∙ e) ∙ s .idle-free))

@@ -4,12 +4,12 @@
 use Prim.Native.Nat.{ℕ, zero, suc, _+_, _-_, _≤_, _<_, _^_}
 use native.Mathlib.Omega.{arith}
 use native.Mathlib.Nat.{sub-zero}
-use mathlib.Core.Path.{_≡_, refl, sym, ap, _∙_}
+use mathlib.Core.Path.{_≡_, refl, sym, ap, _∙_, subst}
 use mathlib.Core.Logic.{_≢_, _⊎_, inl, inr, ⊎-elim}
 use mathlib.Core.Bool.{Bool, true, false, cond, not, _&&_, _||_, true≢false}
 use mathlib.Core.List.{List, [], _∷_}
 use lib.Dec.{eqb, leb, ltb}
-use lib.ListN.{getD, set, length}
+use lib.ListN.{getD, set, length, replicate}
 use borrow.Author.Tests.{eqb-true, eq-eqb, eqb-false, ne-eqb, le-ltb, le-leb, leb-true, leb-false}
 use Rattle.rules.specs.Line.{at, front, rest, first-alone, by-time, count, one-if, empty}
 use Rattle.rules.specs.Machine.{Machine, Command, tasks, runner}
@@ -22,7 +22,7 @@ use Rattle.rules.proofs.Lists.{waits-fewer, one-self}
 use Rattle.rules.proofs.Sounds.{Sound, once}
 use Rattle.rules.proofs.Kept.{AllowedOut, release-sound}
 use Rattle.rules.proofs.Accepted.{Allowed}
-use Rattle.rules.proofs.Step.{Step, kept, carried, step, next-sound, moved-clock}
+use Rattle.rules.proofs.Step.{Step, kept, carried, step, next-sound, run-sound, moved-started}
 
 -- The delay line: the entry at index r, and what placing a later entry leaves of it.
 task-at : (l : List (ℕ × ℕ)) (r : ℕ) → r < length l → 1 ≤ count (getD l r (0, 0) .1) (tasks l)
@@ -242,3 +242,81 @@ left-is-due m s t r e = go (is-due (m .clock) t (m .delay)) refl e
 pub due-is-left : (m : Machine) → Sound m → (t r : ℕ) → DueAt m t r → wakes-left m t ≡ suc r
 unfolding wakes-left
 due-is-left m s t r d = let w = counted (m .clock) t (m .delay) r (omega (arith, once m s t)) (d .inside) (d .task) (d .due) in rw (w .0, w .1)
+
+-- And from outside: a Wake releases only a due task, the first; so the answer can be read off a row of Wakes.
+abbrev pub a-wake : Command
+a-wake = cmd 5 0 0 0
+
+-- what a Wake finds in the delay line
+Found : Machine → List (ℕ × ℕ) → Type 0
+Found m l = (front 0 (first-alone (tasks l)) ≢ 0 → not (empty l) && leb (front (0, 0) l .0) (m .clock) ≡ true → (0 < length l) × (getD l 0 (0, 0) .0 ≤ m .clock))
+
+finds : (m : Machine) (l : List (ℕ × ℕ)) → Found m l
+unfolding Found
+finds m [] n e = absurd (n refl)
+finds m (f ∷ l) n e = (omega arith, leb-true _ _ e)
+
+pub wake-takes-due : (m : Machine) → Sound m → (c : Command) → wakes m c ≡ true → released m c ≢ 0 → DueAt m (released m c) 0
+unfolding Found
+wake-takes-due m s c woke n = go (step m s c)
+  where
+    of-row : (b : Bool) → first-due m ≡ b → front 0 (freed (cond b due none) m) ≢ 0 → DueAt m (front 0 (freed (cond b due none) m)) 0
+    of-row true e n = let w = finds m (m .delay) n e in record { inside = w .0; task = sym (first-task (m .delay)); due = w .1 }
+    of-row false e n = absurd (n refl)
+
+    go : Step m c → DueAt m (released m c) 0
+    go (kept e f w) = absurd (n f)
+    go (carried e f w g) =
+        let q : effect m c ≡ moves same (cond (first-due m) due none) 0 = (let o : c .op ≡ 5 = eqb-true _ _ (sym w ∙ woke) in rw o) in
+        let z : released m c ≡ front 0 (freed (cond (first-due m) due none) m) = f ∙ ap (λ (x : Effect). freed-by x m) q in
+        rw z (of-row (first-due m) refl (λ y. n (z ∙ y)))
+
+wake-accepted : (m : Machine) → m .started ≡ true → wakes m a-wake ≡ true
+unfolding wakes refusal
+wake-accepted m on = rw on
+
+wake-next : (m : Machine) → m .started ≡ true → next m a-wake ≡ carry m (moves same (cond (first-due m) due none) 0)
+unfolding next refusal
+wake-next m on = rw on
+
+-- the state behind a Wake: one entry fewer, or the same line
+due-before : (m : Machine) → Sound m → m .started ≡ true → (t r : ℕ) → DueAt (next m a-wake) t r → DueAt m t (suc r)
+unfolding carry leave release
+due-before m s on t r d = go (first-due m) refl (subst (λ (x : Machine). DueAt x t r) (wake-next m on) d)
+  where
+    longer : (l : List (ℕ × ℕ)) → r < length (rest l) → suc r < length l
+    longer [] h = absurd (omega arith)
+    longer (f ∷ l) h = omega arith
+
+    go : (b : Bool) → first-due m ≡ b → DueAt (carry m (moves same (cond b due none) 0)) t r → DueAt m t (suc r)
+    go true e d =
+        let w = behind-first (m .delay) r (longer (m .delay) (d .inside)) in
+        record { inside = longer (m .delay) (d .inside); task = rw (w .1) at (d .task); due = (let z : getD (rest (m .delay)) r (0, 0) .0 ≤ m .clock = omega (arith, d .due) in rw (w .1) at z) }
+    go false e d = absurd (true≢false (sym (first-is-due (m .delay) (m .clock) r (s .times-rise) (d .inside) (omega (arith, d .due))) ∙ e))
+
+wake-started : (m : Machine) → m .started ≡ true → next m a-wake .started ≡ true
+unfolding carry
+wake-started m on = ap (λ (x : Machine). x .started) (wake-next m on) ∙ (moved-started same (cond (first-due m) due none) m ∙ on)
+
+wake-count : (r : ℕ) (m : Machine) → m .started ≡ true → wakes-in m (replicate r a-wake) ≡ r
+unfolding wakes-in
+wake-count zero m on = refl
+wake-count (suc r) m on = rw (wake-accepted m on) (omega (arith, wake-count r (next m a-wake) (wake-started m on)))
+
+-- after r Wakes in a row the next one releases t exactly if t was due at index r
+pub row-of-wakes : (r : ℕ) (m : Machine) → Sound m → m .started ≡ true → (t : ℕ) → t ≢ 0 → released (run m (replicate r a-wake)) a-wake ≡ t → DueAt m t r
+unfolding run
+row-of-wakes zero m s on t n e = rw e at (wake-takes-due m s a-wake (wake-accepted m on) (λ z. n (sym e ∙ z)))
+row-of-wakes (suc r) m s on t n e = due-before m s on t r (row-of-wakes r (next m a-wake) (next-sound m s a-wake) (wake-started m on) t n e)
+
+run-of-wakes : (r : ℕ) (m : Machine) → m .started ≡ true → run m (replicate r a-wake) .started ≡ true
+unfolding run
+run-of-wakes zero m on = on
+run-of-wakes (suc r) m on = run-of-wakes r (next m a-wake) (wake-started m on)
+
+pub wakes-in-row : (r : ℕ) (m : Machine) → Sound m → m .started ≡ true → (t : ℕ) → DueAt m t r → released (run m (replicate r a-wake)) a-wake ≡ t
+wakes-in-row r m s on t d =
+    let cs = replicate r a-wake in
+    let i = keeps-its-turn cs m s t r d (omega (arith, wake-count r m on)) in
+    let z : r - wakes-in m cs ≡ 0 = omega (arith, wake-count r m on) in
+    at-wake (run m cs) (run-sound cs m s) t a-wake (wake-accepted (run m cs) (run-of-wakes r m on)) 0 (rw z at (i .0))
