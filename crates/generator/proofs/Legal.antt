@@ -4,17 +4,17 @@ use native.Mathlib.Omega.{arith}
 use native.Mathlib.Nat.{mod-lt}
 use mathlib.Core.Path.{_≡_, refl, sym, ap, _∙_}
 use mathlib.Core.Logic.{_≢_}
-use mathlib.Core.Bool.{Bool, true, false, cond, not, _&&_, _||_, true≢false}
+use mathlib.Core.Bool.{Bool, true, false, cond, not, _&&_, true≢false}
 use mathlib.Core.List.{List, [], _∷_}
 use lib.Dec.{eqb, leb, ltb}
 use lib.ListN.{getD, length}
-use borrow.Author.Tests.{ltb-true, ltb-false, leb-true, leb-false, eqb-true, eqb-false, not-true, not-false, lt-ltb, le-ltb, le-leb, lt-leb, eq-eqb, ne-eqb}
+use borrow.Author.Tests.{ltb-true, leb-true, eqb-false, not-true, lt-ltb, le-ltb, le-leb, eq-eqb, ne-eqb}
 use Rattle.rules.specs.Line.{at, count, empty, within}
-use Rattle.rules.specs.Machine.{Machine, Command, declared, empty-handed, runner, for-open, for-entry}
+use Rattle.rules.specs.Machine.{Machine, Command, declared, runner, for-open, for-entry}
 use Rattle.rules.specs.Refusals.{refusal}
 use Rattle.rules.proofs.Words.{All, cmd}
 use Rattle.rules.proofs.Tests.{and-true}
-use Rattle.rules.proofs.Sounds.{Sound, object-known, object-real, runner-known}
+use Rattle.rules.proofs.Sounds.{Sound, object-known, runner-known}
 use Rattle.generator.specs.Menu.{Kind, hand, free-runner, inside, eligible, sift, eligibles, pick, span-fits, entry-barrier, menu}
 
 sift-all : (f P : ℕ → Bool) (l : List ℕ) → All (λ x. P x ≡ true) l → All (λ x. (P x ≡ true) × (f x ≡ true)) (sift f l)

@@ -1,10 +1,10 @@
 -- What is promised of a draw over document 01's machine, each in plain words and then in antt. Assumes nothing.
-use Prim.Native.Nat.{ℕ, zero, suc, _+_, _-_, _%_, _≤_, _<_, _^_}
+use Prim.Native.Nat.{ℕ, _+_, _-_, _%_, _≤_, _<_, _^_}
 use native.Mathlib.Omega.{arith}
 use native.Mathlib.Nat.{mod-lt, add-mod-right, mod-eq-of-lt}
 use mathlib.Core.Path.{_≡_, refl, sym, ap, _∙_}
 use mathlib.Core.Logic.{_≢_}
-use mathlib.Core.Bool.{Bool, true, false, cond, not, _&&_, true≢false}
+use mathlib.Core.Bool.{Bool, true, false, cond, not, _&&_}
 use mathlib.Core.List.{List, [], _∷_}
 use lib.Dec.{eqb, leb, ltb}
 use lib.ListN.{getD, length, List·getD-eq-default}
@@ -12,10 +12,10 @@ use borrow.Author.Tests.{eqb-true, eqb-false, leb-true, ltb-true, ltb-false, not
 use Rattle.rules.specs.Line.{at, within, every}
 use Rattle.rules.specs.Machine.{Machine, Command, fresh}
 use Rattle.rules.specs.Table.{carry, leave, release}
-use Rattle.rules.specs.Refusals.{refusal, first-number}
+use Rattle.rules.specs.Refusals.{refusal}
 use Rattle.rules.specs.Sound.{sound}
 use Rattle.rules.specs.Run.{next, run}
-use Rattle.rules.proofs.Words.{All, cmd}
+use Rattle.rules.proofs.Words.{cmd}
 use Rattle.rules.proofs.Tests.{and-true}
 use Rattle.rules.proofs.Sounds.{Sound, tests-sound}
 use Rattle.rules.proofs.Walk.{set-up}

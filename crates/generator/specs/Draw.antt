@@ -1,6 +1,6 @@
 -- A drawn command: the profile, the choice by weights, three draws, and the refusals of a draw.
 use Prim.Native.Nat.{ℕ, _+_, _%_}
-use mathlib.Core.Bool.{Bool, true, false, cond, not, _&&_, _||_}
+use mathlib.Core.Bool.{Bool, cond, not, _&&_}
 use mathlib.Core.List.{List, [], _∷_}
 use lib.Dec.{eqb, leb, ltb}
 use Rattle.rules.specs.Line.{at, every, within}

@@ -3,22 +3,22 @@
 use Prim.Native.Nat.{ℕ, zero, suc, _+_, _≤_, _<_, _^_}
 use native.Mathlib.Omega.{arith}
 use mathlib.Core.Path.{_≡_, refl, sym, ap, _∙_}
-use mathlib.Core.Logic.{_≢_, _⊎_, inl, inr, ⊎-elim}
-use mathlib.Core.Bool.{Bool, true, false, cond, not, _&&_, _||_, true≢false}
+use mathlib.Core.Logic.{_≢_}
+use mathlib.Core.Bool.{Bool, true, false, cond, not, _&&_, true≢false}
 use mathlib.Core.List.{List, [], _∷_}
 use lib.Dec.{eqb, leb, ltb}
 use lib.ListN.{getD}
-use borrow.Author.Tests.{eqb-true, eq-eqb, eqb-false, ne-eqb, ltb-true, ltb-false, leb-true, leb-false, le-ltb, not-false, not-true}
-use Rattle.rules.specs.Line.{at, within, front, rest, empty, first-alone, at-tail, count, one-if}
-use Rattle.rules.specs.Machine.{Machine, Command, active, runner, created, tasks}
-use Rattle.rules.specs.Table.{Out, same, take, yield, close, sleep, await, Rel, none, due, serve, Effect, nothing, creates, declares, begins, moves, first-due, effect, freed, enter, release, leave, carry}
-use Rattle.rules.specs.Refusals.{checks, first-number, refusal, formed, fits, operands, holds-so}
-use Rattle.rules.proofs.Words.{All, Pairwise, cmd}
-use Rattle.rules.proofs.Lists.{all-map, all-standing, front-over, count-place}
+use borrow.Author.Tests.{eqb-true, eq-eqb, eqb-false, ltb-true, ltb-false, leb-true, leb-false, le-ltb, not-false, not-true}
+use Rattle.rules.specs.Line.{at, within, front, empty, first-alone, at-tail, count}
+use Rattle.rules.specs.Machine.{Machine, Command, active, runner, created}
+use Rattle.rules.specs.Table.{Out, same, take, yield, close, sleep, await, Rel, none, serve, Effect, nothing, creates, declares, begins, moves, effect, freed, enter, release}
+use Rattle.rules.specs.Refusals.{checks, first-number, refusal, fits, holds-so}
+use Rattle.rules.proofs.Words.{All, cmd}
+use Rattle.rules.proofs.Lists.{all-map, count-place}
 use Rattle.rules.proofs.Tests.{and-true, or-false}
-use Rattle.rules.proofs.Sounds.{Sound, Admits, act-held, once, object-known, object-real}
-use Rattle.rules.proofs.Kept.{release-sound, leave-sound, AllowedOut, MayLeave, MayTake, MaySleep, MayAwait}
-use Rattle.rules.proofs.SetUp.{MayCreate, MayDeclare, create-sound, declare-sound, timed-sound}
+use Rattle.rules.proofs.Sounds.{Sound, Admits, act-held, object-known, object-real}
+use Rattle.rules.proofs.Kept.{AllowedOut, MayLeave}
+use Rattle.rules.proofs.SetUp.{MayCreate, MayDeclare}
 
 -- the check with number n, false where there is none
 abbrev numbered : ℕ → List (Bool × ℕ) → Bool

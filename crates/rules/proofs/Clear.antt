@@ -1,9 +1,9 @@
 -- The invariant behind the promise on releases: where a task holds an object, every task ahead of it in the ready line has a base above
 -- its ceiling. Every step from a sound state keeps it, so it holds along every run from the fresh machine. It does not follow from
 -- soundness: two low tasks may hold objects of one high ceiling in a forged state, and both run before a task between. Assumes nothing.
-use Prim.Native.Nat.{ℕ, zero, suc, _+_, _≤_, _<_}
+use Prim.Native.Nat.{ℕ, suc, _≤_, _<_}
 use native.Mathlib.Omega.{arith}
-use mathlib.Core.Path.{_≡_, refl, sym, ap, _∙_}
+use mathlib.Core.Path.{_≡_}
 use mathlib.Core.Logic.{_≢_}
 use mathlib.Core.List.{List, [], _∷_}
 use lib.ListN.{set}
@@ -17,7 +17,7 @@ use Rattle.rules.proofs.Sounds.{Sound, act-free, others}
 use Rattle.rules.proofs.Kept.{AllowedOut, freed-away, release-sound, new-held, other-held, act-with, behind-falls}
 use Rattle.rules.proofs.SetUp.{nobody-holds}
 use Rattle.rules.proofs.Accepted.{Allowed}
-use Rattle.rules.proofs.Step.{Step, kept, carried, step, next-sound, fresh-sound, release-started}
+use Rattle.rules.proofs.Step.{Step, kept, carried, step, next-sound}
 
 -- a may stand ahead of b
 abbrev pub Over : Machine → ℕ → ℕ → Type 0

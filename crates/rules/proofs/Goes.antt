@@ -1,12 +1,11 @@
 -- Where each row of the op table puts a task, in the paper's words: the law of placing (Placing.antt), told of the step itself.
 -- `Split P Q t before after`: the line before is some tasks with P and then some with Q; after, t stands between them. Assumes nothing.
 use Prim.Native.Nat.{ℕ, suc, _≤_, _<_}
-use mathlib.Core.Path.{_≡_, refl}
-use mathlib.Core.List.{List, [], _∷_}
+use mathlib.Core.Path.{_≡_}
+use mathlib.Core.List.{[], _∷_}
 use Rattle.rules.specs.Line.{at, rest}
 use Rattle.rules.specs.Machine.{Machine, active, runner}
-use Rattle.rules.specs.Table.{close, yield, sleep, serve, due, creates, freed, release, leave, carry}
-use Rattle.rules.proofs.Words.{All, Pairwise}
+use Rattle.rules.specs.Table.{close, yield, sleep, serve, due, freed, release, leave}
 use Rattle.rules.proofs.Lists.{pairwise-rest}
 use Rattle.rules.proofs.Sounds.{Sound}
 use Rattle.rules.proofs.Placing.{Split, tail-splits, head-splits, time-splits}

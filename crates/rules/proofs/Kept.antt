@@ -1,22 +1,22 @@
 -- A row carried out on a sound state leaves a sound state, where the row is allowed. Each part of `carry` by itself: the release, the way
 -- out of the runner, the clock, and the set-up before Start. Assumes nothing.
-use Prim.Native.Nat.{ℕ, zero, suc, _+_, _≤_, _<_, _^_}
+use Prim.Native.Nat.{ℕ, suc, _+_, _≤_, _<_, _^_}
 use native.Mathlib.Omega.{arith}
 use mathlib.Core.Path.{_≡_, refl, sym, ap, _∙_}
 use mathlib.Core.Logic.{_≢_, _⊎_, inl, inr, ⊎-elim}
-use mathlib.Core.Bool.{Bool, true, false, cond, not, _||_, true≢false}
+use mathlib.Core.Bool.{Bool, true, false, cond}
 use mathlib.Core.List.{List, [], _∷_, _++_}
-use lib.Dec.{eqb, leb, ltb}
-use lib.ListN.{getD, set, length, length-set, List·getD-eq-default}
+use lib.Dec.{eqb, ltb}
+use lib.ListN.{getD, set, length, length-set}
 use lib.Seq.{getD-set-other, getD-set-same}
-use borrow.Author.Tests.{eqb-true, eq-eqb, eqb-false, ne-eqb, ltb-true, ltb-false, le-ltb}
-use Rattle.rules.specs.Line.{at, front, rest, first-alone, place, at-tail, at-head, by-time, count, one-if}
-use Rattle.rules.specs.Machine.{Machine, active, tasks, created, declared, runner}
-use Rattle.rules.specs.Table.{Out, same, take, yield, close, sleep, await, Rel, none, due, serve, Effect, nothing, creates, declares, begins, moves, with-set-up, with-lines, with-hands, later, freed, enter, release, leave, carry}
+use borrow.Author.Tests.{eq-eqb, ne-eqb, ltb-true, ltb-false}
+use Rattle.rules.specs.Line.{at, rest, place, at-tail, at-head, by-time, count, one-if}
+use Rattle.rules.specs.Machine.{Machine, active, tasks, runner}
+use Rattle.rules.specs.Table.{Out, same, take, yield, close, sleep, await, Rel, none, due, serve, with-lines, with-hands, freed, enter, release, leave}
 use Rattle.rules.specs.Sound.{standings, waits}
 use Rattle.rules.proofs.Words.{All, Pairwise}
-use Rattle.rules.proofs.Lists.{all-map, all-both, all-every, all-place, all-rest, all-at, all-set, pairwise-map, pairwise-rest, front-over, pairwise-front, set-either, tail-pairwise, tail-falls, count-place, count-tasks-place, one-self, count-absent, all-standing, standing, count-snoc, count-first, tasks-rest, count-set, waits-more, waits-fewer, waits-at, lt-or-ge, eq-or-ne}
-use Rattle.rules.proofs.Sounds.{Sound, Numbers, Hands, Admits, Calm, act-free, act-held, nowhere, once, known, based, front-and-rest, runner-there, runner-known, others, holder, not-ready, object-known, object-real}
+use Rattle.rules.proofs.Lists.{all-map, all-both, all-place, all-rest, all-at, all-set, pairwise-map, pairwise-rest, front-over, pairwise-front, set-either, tail-falls, count-place, count-tasks-place, all-standing, count-first, tasks-rest, count-set, waits-more, waits-fewer, lt-or-ge, eq-or-ne}
+use Rattle.rules.proofs.Sounds.{Sound, Numbers, Admits, act-free, nowhere, once, front-and-rest, runner-there, runner-known, others, not-ready, object-known, object-real}
 
 -- What a step that moves tasks may change, and has to show of it: what the tasks hold, and the three lines.
 pub record HandsKept (m : Machine) (held way : List ℕ) : Type 0 where

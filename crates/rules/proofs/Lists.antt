@@ -2,14 +2,14 @@
 use Prim.Native.Nat.{ℕ, zero, suc, _+_, _≤_, _<_}
 use native.Mathlib.Omega.{arith}
 use native.Mathlib.Nat.{eq-or-lt-of-le}
-use mathlib.Core.Path.{_≡_, refl, sym, ap, _∙_}
+use mathlib.Core.Path.{_≡_, refl, sym, ap}
 use mathlib.Core.Logic.{_≢_, _⊎_, inl, inr, ⊎-elim}
 use mathlib.Core.Bool.{Bool, true, false, cond}
 use mathlib.Core.List.{List, [], _∷_, _++_}
-use lib.Dec.{eqb, leb, ltb}
-use lib.ListN.{getD, set, length, replicate}
+use lib.Dec.{eqb, ltb}
+use lib.ListN.{getD, set, length}
 use borrow.Author.Tests.{ltb-true, ltb-false, eqb-true, eqb-false, ne-eqb, eq-eqb}
-use Rattle.rules.specs.Line.{place, rest, front, first-alone, at, at-tail, count, one-if}
+use Rattle.rules.specs.Line.{place, rest, front, first-alone, at-tail, count, one-if}
 use Rattle.rules.specs.Machine.{tasks}
 use Rattle.rules.specs.Sound.{waits}
 use Rattle.rules.proofs.Words.{All, Pairwise}

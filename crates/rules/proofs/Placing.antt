@@ -1,12 +1,12 @@
 -- What "placed" means: the theorem that ties the placing function to document 01's words.
 -- On an ordered line the new entry stands behind all those and before all those that the paper names, and the others keep their order:
 -- the line is `ahead ++ behind`, and after placing it is `ahead ++ new ∷ behind`. Assumes nothing.
-use Prim.Native.Nat.{ℕ, zero, suc, _+_, _≤_, _<_}
+use Prim.Native.Nat.{ℕ, suc, _≤_, _<_}
 use native.Mathlib.Omega.{arith}
 use mathlib.Core.Path.{_≡_, refl, ap}
 use mathlib.Core.Bool.{Bool, true, false, cond}
 use mathlib.Core.List.{List, [], _∷_, _++_}
-use lib.Dec.{leb, ltb}
+use lib.Dec.{ltb}
 use borrow.Author.Tests.{ltb-true, ltb-false, lt-ltb}
 use Rattle.rules.specs.Line.{place, at-tail, at-head, by-time}
 use Rattle.rules.proofs.Words.{All, Pairwise}

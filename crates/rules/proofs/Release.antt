@@ -1,24 +1,24 @@
 -- The promise on releases. At its release a task t of base p stands behind at most one task of lower base, and that one holds an object
 -- (by Clear: of two such, the one behind would bar the one ahead). Until t runs, nobody of lower base gets ahead of t, and the one that
 -- is ahead loses its place when it closes its object: it goes to the head of its own base, behind t. Assumes nothing.
-use Prim.Native.Nat.{ℕ, zero, suc, _+_, _≤_, _<_}
+use Prim.Native.Nat.{ℕ, suc, _≤_, _<_}
 use native.Mathlib.Omega.{arith}
 use mathlib.Core.Path.{_≡_, refl, sym, ap, _∙_, subst}
 use mathlib.Core.Logic.{_≢_, _⊎_, inl, inr, ⊎-elim}
-use mathlib.Core.Bool.{Bool, true, false, cond, true≢false}
+use mathlib.Core.Bool.{Bool, true, false, cond}
 use mathlib.Core.List.{List, [], _∷_}
-use lib.Dec.{eqb, leb, ltb}
+use lib.Dec.{ltb}
 use lib.ListN.{getD, set}
 use lib.Seq.{getD-set-other}
-use borrow.Author.Tests.{ltb-true, ltb-false, ne-eqb, le-ltb}
+use borrow.Author.Tests.{ltb-false, ne-eqb, le-ltb}
 use Rattle.rules.specs.Line.{at, count, front, rest, first-alone, place, at-tail}
 use Rattle.rules.specs.Machine.{Machine, Command, active, runner, running, tasks}
-use Rattle.rules.specs.Table.{Out, same, take, yield, close, sleep, await, Rel, none, due, serve, Effect, nothing, creates, declares, begins, moves, effect, freed, freed-by, enter, later, release, leave, carry}
+use Rattle.rules.specs.Table.{Out, same, take, yield, close, sleep, await, Rel, none, due, serve, Effect, nothing, creates, declares, begins, moves, effect, freed, freed-by, enter, release, leave, carry}
 use Rattle.rules.specs.Run.{next, released, run}
 use Rattle.rules.proofs.Words.{All, Pairwise, moments, Clear}
 use Rattle.rules.proofs.Lists.{all-map, eq-or-ne, lt-or-ge, one-self}
 use Rattle.rules.proofs.Sounds.{Sound, act-free, based, others, object-real}
-use Rattle.rules.proofs.Kept.{AllowedOut, freed-away, release-sound, new-held, other-held, act-with, act-other}
+use Rattle.rules.proofs.Kept.{AllowedOut, freed-away, release-sound, new-held, other-held}
 use Rattle.rules.proofs.Accepted.{Allowed}
 use Rattle.rules.proofs.Step.{Step, kept, carried, step, next-sound, moved-started}
 use Rattle.rules.proofs.Clear.{Over}

@@ -1,22 +1,21 @@
 -- The set-up before Start keeps a sound state sound: a task created, an object declared, Start itself.
 -- Nobody holds, waits or sleeps yet, so each task's active priority is its base. Assumes nothing.
-use Prim.Native.Nat.{ℕ, zero, suc, _+_, _≤_, _<_, _^_}
+use Prim.Native.Nat.{ℕ, _+_, _≤_, _<_, _^_}
 use native.Mathlib.Omega.{arith}
 use mathlib.Core.Path.{_≡_, refl, sym, ap, _∙_}
-use mathlib.Core.Logic.{_≢_, _⊎_, inl, inr, ⊎-elim}
-use mathlib.Core.Bool.{Bool, true, false, cond, not, _||_, true≢false}
-use mathlib.Core.List.{List, [], _∷_}
-use lib.Dec.{eqb, leb, ltb}
-use lib.ListN.{getD, set, length, length-set}
+use mathlib.Core.Logic.{_≢_, ⊎-elim}
+use mathlib.Core.Bool.{Bool, true, false, not, _||_}
+use mathlib.Core.List.{[]}
+use lib.Dec.{eqb, ltb}
+use lib.ListN.{getD, set, length-set}
 use lib.Seq.{getD-set-other, getD-set-same}
-use borrow.Author.Tests.{eqb-true, eq-eqb, eqb-false, ne-eqb}
+use borrow.Author.Tests.{eq-eqb, ne-eqb}
 use Rattle.rules.specs.Line.{at, at-tail, count, one-if}
 use Rattle.rules.specs.Machine.{Machine, active, tasks, created}
-use Rattle.rules.specs.Table.{Effect, creates, declares, begins, with-set-up, with-lines, carry}
+use Rattle.rules.specs.Table.{creates, declares, with-set-up, carry}
 use Rattle.rules.specs.Sound.{standings, waits}
-use Rattle.rules.proofs.Words.{All, Pairwise}
 use Rattle.rules.proofs.Lists.{all-every, all-place, all-at, all-set, pairwise-map, tail-falls, count-place, count-absent, eq-or-ne}
-use Rattle.rules.proofs.Sounds.{Sound, Admits, Calm, act-free}
+use Rattle.rules.proofs.Sounds.{Sound, act-free}
 
 -- What an accepted command has shown.
 pub record MayCreate (m : Machine) (t p : ℕ) : Type 0 where

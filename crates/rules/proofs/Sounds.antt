@@ -1,19 +1,19 @@
 -- What a sound state is, as statements; that the test says just that; and what follows at once: where a task stands, and that lines are short.
 -- Assumes nothing.
-use Prim.Native.Nat.{ℕ, zero, suc, _+_, _≤_, _<_, _^_}
+use Prim.Native.Nat.{ℕ, _+_, _≤_, _<_, _^_}
 use native.Mathlib.Omega.{arith}
 use mathlib.Core.Path.{_≡_, refl, sym, ap, _∙_}
-use mathlib.Core.Logic.{_≢_, _⊎_, inl, inr, ⊎-elim}
-use mathlib.Core.Bool.{Bool, true, false, cond, not, _||_, true≢false}
+use mathlib.Core.Logic.{_≢_, ⊎-elim}
+use mathlib.Core.Bool.{Bool, true, false, not, _||_, true≢false}
 use mathlib.Core.List.{List, [], _∷_}
-use lib.Dec.{eqb, leb, ltb}
+use lib.Dec.{eqb}
 use lib.ListN.{getD, length, List·getD-eq-default}
-use borrow.Author.Tests.{eqb-true, eq-eqb, eqb-false, ne-eqb}
-use Rattle.rules.specs.Line.{at, front, rest, count, one-if}
-use Rattle.rules.specs.Machine.{Machine, active, tasks, created, declared, empty-handed, runner}
+use borrow.Author.Tests.{eqb-true, eqb-false, ne-eqb}
+use Rattle.rules.specs.Line.{at, rest, count, one-if}
+use Rattle.rules.specs.Machine.{Machine, active, tasks, created, runner}
 use Rattle.rules.specs.Sound.{sound, standings, waits, tasks-only, admits}
 use Rattle.rules.proofs.Words.{All, Pairwise}
-use Rattle.rules.proofs.Lists.{all-at, all-standing, standing, count-front, count-absent, one-self, waits-at, few, lt-or-ge}
+use Rattle.rules.proofs.Lists.{standing, count-front, count-absent, one-self, few, lt-or-ge}
 use Rattle.rules.proofs.Tests.{Tests, tests-is, tests-le, tests-lt, tests-eq, tests-ne, tests-empty, tests-map, tests-and, tests-or, tests-cond, tests-every, tests-neighbours, tests-all-below}
 
 abbrev pub Numbers : List ℕ → Type 0

@@ -1,13 +1,11 @@
 -- The two ways of a step: refused, and nothing changes; or accepted, and an allowed row is carried out. So every step keeps a sound state
 -- sound, and every run from the fresh machine is through sound states. Assumes nothing.
-use Prim.Native.Nat.{ℕ, zero, suc, _+_, _≤_, _<_, _^_}
-use native.Mathlib.Omega.{arith}
-use mathlib.Core.Path.{_≡_, refl, sym, ap, _∙_}
-use mathlib.Core.Logic.{_≢_}
-use mathlib.Core.Bool.{Bool, true, false, cond, not, _&&_, true≢false}
+use Prim.Native.Nat.{_+_}
+use mathlib.Core.Path.{_≡_, refl, _∙_}
+use mathlib.Core.Bool.{Bool, true, false, _&&_}
 use mathlib.Core.List.{List, [], _∷_}
 use lib.Dec.{eqb}
-use borrow.Author.Tests.{eqb-true, eqb-false}
+use borrow.Author.Tests.{eqb-true}
 use Rattle.rules.specs.Line.{all-below}
 use Rattle.rules.specs.Machine.{Machine, Command, fresh}
 use Rattle.rules.specs.Table.{Out, same, take, yield, close, sleep, await, Rel, none, due, serve, Effect, nothing, creates, declares, begins, moves, effect, release, leave, carry, freed-by}

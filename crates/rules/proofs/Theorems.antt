@@ -1,15 +1,15 @@
 -- What is promised of document 01's machine, each in plain words and then in antt, over every list of commands: unknown ops, bad operands,
 -- refused commands and all. Beside each: which wrong machines it rules out, and which it leaves to another. The proofs are in the files
 -- that are named; `run fresh before` is the state behind any commands whatever. Assumes nothing.
-use Prim.Native.Nat.{ℕ, zero, suc, _+_, _-_, _≤_, _<_}
+use Prim.Native.Nat.{ℕ, zero, suc, _-_, _≤_, _<_}
 use native.Mathlib.Omega.{arith}
 use mathlib.Core.Path.{_≡_, refl, sym, ap, _∙_}
 use mathlib.Core.Logic.{_≢_, _↔_}
-use mathlib.Core.Bool.{Bool, true, false}
-use mathlib.Core.List.{List, [], _∷_}
+use mathlib.Core.Bool.{true}
+use mathlib.Core.List.{List}
 use lib.ListN.{replicate}
 use Rattle.rules.specs.Line.{at}
-use Rattle.rules.specs.Machine.{Machine, Command, fresh, running, runner}
+use Rattle.rules.specs.Machine.{Machine, Command, fresh, running}
 use Rattle.rules.specs.Sound.{sound}
 use Rattle.rules.specs.Run.{next, released, answer, run, answers, wakes-left}
 use Rattle.rules.proofs.Words.{All, moments, wakes, wakes-in, DueAt, Clear}

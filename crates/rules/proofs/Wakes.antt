@@ -1,21 +1,21 @@
 -- The promise on Wakes. A task that is due at index r of the delay line stays there, moves up by one with each accepted Wake, and is
 -- released by the (r+1)th and by nothing before it. Why: entries come in later than the clock, so behind all that are due; and a
 -- delayed task stands nowhere else, so nothing but a Wake can release it. Assumes nothing.
-use Prim.Native.Nat.{ℕ, zero, suc, _+_, _-_, _≤_, _<_, _^_}
+use Prim.Native.Nat.{ℕ, zero, suc, _+_, _-_, _≤_, _<_}
 use native.Mathlib.Omega.{arith}
 use native.Mathlib.Nat.{sub-zero}
 use mathlib.Core.Path.{_≡_, refl, sym, ap, _∙_, subst}
-use mathlib.Core.Logic.{_≢_, _⊎_, inl, inr, ⊎-elim}
+use mathlib.Core.Logic.{_≢_}
 use mathlib.Core.Bool.{Bool, true, false, cond, not, _&&_, _||_, true≢false}
 use mathlib.Core.List.{List, [], _∷_}
-use lib.Dec.{eqb, leb, ltb}
+use lib.Dec.{eqb, leb}
 use lib.ListN.{getD, set, length, replicate}
-use borrow.Author.Tests.{eqb-true, eq-eqb, eqb-false, ne-eqb, le-ltb, le-leb, leb-true, leb-false}
+use borrow.Author.Tests.{eqb-true, eq-eqb, eqb-false, ne-eqb, le-ltb, le-leb, leb-true}
 use Rattle.rules.specs.Line.{at, front, rest, first-alone, by-time, count, one-if, empty}
 use Rattle.rules.specs.Machine.{Machine, Command, tasks, runner}
 use Rattle.rules.specs.Table.{Out, same, take, yield, close, sleep, await, Rel, none, due, serve, Effect, nothing, creates, declares, begins, moves, first-due, effect, freed, freed-by, later, release, leave, carry}
 use Rattle.rules.specs.Refusals.{refusal}
-use Rattle.rules.specs.Sound.{standings, waits}
+use Rattle.rules.specs.Sound.{waits}
 use Rattle.rules.specs.Run.{next, released, answer, run, answers, is-due, ahead, wakes-left}
 use Rattle.rules.proofs.Words.{All, Pairwise, cmd, wakes, wakes-in, DueAt}
 use Rattle.rules.proofs.Lists.{waits-fewer, one-self}

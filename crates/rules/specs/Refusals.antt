@@ -1,7 +1,7 @@
 -- The numbers of refusal 2 to 13: a test for each, under its sentence, in their order.
 -- 1, Shape, comes before them all, and is tested where a state comes in: these are of a sound state. What stands in [ ] is tested elsewhere.
 use Prim.Native.Nat.{ℕ, _+_, _^_}
-use mathlib.Core.Bool.{Bool, true, false, cond, not, _&&_, _||_}
+use mathlib.Core.Bool.{Bool, true, cond, not, _&&_, _||_}
 use mathlib.Core.List.{List, [], _∷_}
 use lib.Dec.{eqb, leb, ltb}
 use lib.ListN.{getD}

@@ -1,7 +1,7 @@
 -- A step with its answer, runs of any commands, and the question "Wakes left": of a sound machine.
 -- (Where a state comes in from outside, one that is not sound is answered 1, running 0, released 0 and the very state that came in.)
 use Prim.Native.Nat.{ℕ, suc}
-use mathlib.Core.Bool.{Bool, true, false, cond, not, _&&_, _||_}
+use mathlib.Core.Bool.{Bool, false, cond, not, _&&_, _||_}
 use mathlib.Core.List.{List, [], _∷_}
 use lib.Dec.{eqb, leb}
 use Rattle.rules.specs.Line.{within}
