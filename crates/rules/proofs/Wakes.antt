@@ -11,15 +11,15 @@ use mathlib.Core.List.{List, [], _∷_}
 use lib.Dec.{eqb, leb}
 use lib.ListN.{getD, set, length, replicate}
 use borrow.Author.Tests.{eqb-true, eq-eqb, eqb-false, ne-eqb, le-ltb, le-leb, leb-true}
-use Rattle.rules.specs.Line.{at, front, rest, first-alone, by-time, count, one-if, empty}
-use Rattle.rules.specs.Machine.{Machine, Command, tasks, runner}
+use Rattle.rules.specs.Line.{at, within, front, rest, first-alone, by-time, count, one-if, empty}
+use Rattle.rules.specs.Machine.{Machine, Command, tasks, created, runner}
 use Rattle.rules.specs.Table.{Out, same, take, yield, close, sleep, await, Rel, none, due, serve, Effect, nothing, creates, declares, begins, moves, first-due, effect, freed, freed-by, later, release, leave, carry}
 use Rattle.rules.specs.Refusals.{refusal}
-use Rattle.rules.specs.Sound.{waits}
-use Rattle.rules.specs.Run.{next, released, answer, run, answers, is-due, ahead, wakes-left}
+use Rattle.rules.specs.Sound.{standings, waits}
+use Rattle.rules.specs.Run.{next, released, answer, run, answers, is-due, ahead, wakes-left, Left, question}
 use Rattle.rules.proofs.Words.{All, Pairwise, cmd, wakes, wakes-in, DueAt}
 use Rattle.rules.proofs.Lists.{waits-fewer, one-self}
-use Rattle.rules.proofs.Sounds.{Sound, once}
+use Rattle.rules.proofs.Sounds.{Sound, once, known, based}
 use Rattle.rules.proofs.Kept.{AllowedOut, release-sound}
 use Rattle.rules.proofs.Accepted.{Allowed}
 use Rattle.rules.proofs.Step.{Step, kept, carried, step, next-sound, run-sound, moved-started}
@@ -242,6 +242,24 @@ left-is-due m s t r e = go (is-due (m .clock) t (m .delay)) refl e
 pub due-is-left : (m : Machine) → Sound m → (t r : ℕ) → DueAt m t r → wakes-left m t ≡ suc r
 unfolding wakes-left
 due-is-left m s t r d = let w = counted (m .clock) t (m .delay) r (omega (arith, once m s t)) (d .inside) (d .task) (d .due) in rw (w .0, w .1)
+
+-- So does the question, of which a task out of range or not set up is refused with 0 left: such a task is never due.
+pub question-left : (m : Machine) → Sound m → (t r : ℕ) → question m t .left ≡ suc r → DueAt m t r
+unfolding question
+question-left m s t r e = go (within 1 31 t) (created m t) e
+  where
+    go : (a b : Bool) → cond {A = Left} (not a) (record { code = 4; left = 0 }) (cond (not b) (record { code = 6; left = 0 }) (record { code = 0; left = wakes-left m t })) .left ≡ suc r → DueAt m t r
+    go true true e = left-is-due m s t r e
+    go true false e = absurd (omega arith)
+    go false b e = absurd (omega arith)
+
+pub left-question : (m : Machine) → Sound m → (t r : ℕ) → DueAt m t r → question m t .left ≡ suc r
+unfolding question
+left-question m s t r d =
+    let n = not-idle m s t r d in
+    let h : 1 ≤ standings m t = (let z = delayed m s t r d in omega arith) in
+    let k : t < 32 = known m s t h in
+    rw (le-leb 1 t (omega arith), le-leb t 31 (omega arith), ne-eqb t 0 n, ne-eqb (at (m .base) t) 0 (λ e. omega (arith, based m s t h n))) (due-is-left m s t r d)
 
 -- And from outside: a Wake releases only a due task, the first; so the answer can be read off a row of Wakes.
 abbrev pub a-wake : Command
