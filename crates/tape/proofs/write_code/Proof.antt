@@ -1,0 +1,35 @@
+-- `tape::write_code` meets its contract: the code is the definition, check by check. Assumes nothing.
+use borrow.Author.Needs.{needs}
+use Rattle.tape.specs.Write.{writeCode}
+use Rattle.tape.proofs.write_code.Statement.{statement}
+use Rattle.tape.proofs.write_code.Tie as tie
+
+fault-requires : tie.Need-fault-requires
+fault-requires c κs = search needs
+
+lacks-room-requires : tie.Need-lacks-room-requires
+lacks-room-requires c κs = search needs
+
+choose-requires : tie.Need-choose-requires
+choose-requires c κs = search needs
+
+choose-requires-2 : tie.Need-choose-requires-2
+choose-requires-2 c κs = search needs
+
+choose-requires-3 : tie.Need-choose-requires-3
+choose-requires-3 c κs = search needs
+
+returns : tie.Need-returns
+unfolding writeCode
+returns c = cc
+
+pub write-code-spec : {M : Type 1} → statement M
+write-code-spec =
+    tie.close
+    (tie.spec
+    fault-requires
+    lacks-room-requires
+    choose-requires
+    choose-requires-2
+    choose-requires-3
+    returns)

@@ -1,0 +1,4 @@
+pub mod Form
+pub mod Write
+pub mod Read
+pub mod Run
