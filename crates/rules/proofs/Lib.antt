@@ -1,4 +1,5 @@
 pub mod Walk
+pub mod Corners
 pub mod Words
 pub mod Lists
 pub mod Tests

@@ -20,7 +20,7 @@ pub record Split {A : Type 0} (Ahead Behind : A → Type 0) (x : A) (l placed : 
   pub all-ahead : All Ahead ahead
   pub all-behind : All Behind behind
 
--- One law for all four: on a line where the test, once it stops, stops at all that follow.
+-- One law for all three: on a line where the test, once it stops, stops at all that follow.
 module _ {A : Type 0} (stop : A → Bool) (x : A) where
   pub place-splits : (l : List A) → Pairwise (λ a b. stop a ≡ true → stop b ≡ true) l → Split (λ y. stop y ≡ false) (λ y. stop y ≡ true) x l (place stop x l)
   place-splits [] k = record { ahead = []; behind = []; was = refl; is = refl; all-ahead = tt; all-behind = tt }

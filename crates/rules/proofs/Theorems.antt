@@ -4,25 +4,29 @@
 use Prim.Native.Nat.{ℕ, zero, suc, _-_, _≤_, _<_}
 use native.Mathlib.Omega.{arith}
 use mathlib.Core.Path.{_≡_, refl, sym, ap, _∙_}
-use mathlib.Core.Logic.{_≢_, _↔_}
+use mathlib.Core.Logic.{_≢_, _↔_, _⊎_}
 use mathlib.Core.Bool.{true}
 use mathlib.Core.List.{List}
 use lib.ListN.{replicate}
+use borrow.Author.Tests.{ne-eqb}
 use Rattle.rules.specs.Line.{at}
-use Rattle.rules.specs.Machine.{Machine, Command, fresh, running}
+use Rattle.rules.specs.Machine.{Machine, Command, fresh, runner, running}
+use Rattle.rules.specs.Refusals.{refusal}
 use Rattle.rules.specs.Sound.{sound}
-use Rattle.rules.specs.Run.{next, released, answer, run, answers, wakes-left}
-use Rattle.rules.proofs.Words.{All, moments, wakes, wakes-in, DueAt, Clear}
-use Rattle.rules.proofs.Sounds.{Sound, tests-sound}
+use Rattle.rules.specs.Run.{accepts, next, released, answer, run, answers, question, wakes-left}
+use Rattle.rules.proofs.Words.{All, Pairwise, moments, wakes, wakes-in, DueAt, Clear}
+use Rattle.rules.proofs.Lists.{pairwise-map, all-every}
+use Rattle.rules.proofs.Sounds.{Sound, tests-sound, act-held}
 use Rattle.rules.proofs.Step.{next-sound, run-sound, fresh-test, fresh-sound}
-use Rattle.rules.proofs.Wakes.{a-wake, keeps-its-turn, at-wake, left-is-due, due-is-left, wakes-in-row, row-of-wakes, wake-takes-due}
+use Rattle.rules.proofs.Wakes.{a-wake, keeps-its-turn, at-wake, left-is-due, due-is-left, question-left, left-question, wakes-in-row, row-of-wakes, wake-takes-due}
 use Rattle.rules.proofs.Clear.{next-clear, run-clear, fresh-clear}
 use Rattle.rules.proofs.Release.{released-behind, released-based, lower-runs, first-moment}
+use Rattle.rules.proofs.Goes.{closed-holds-nothing}
 
 -- ## Sound states
--- The fresh machine is sound; a step from a sound state leaves a sound state: by the test that the step itself makes.
+-- The fresh machine is sound; a step from a sound state leaves a sound state: by `sound`, the test that a kernel makes of a state that comes in.
 -- Rules out: a place given to a task twice or to none, a holder that is put to sleep, a line out of order, a clock past its end.
--- Leaves: a machine that refuses all, or does nothing (the op table, Table.antt, and the walk).
+-- Leaves: a machine that refuses all, or does nothing (the op table, Table.antt, and the walk); and a test that is too weak (Corners, unsound).
 pub fresh-is-sound : sound fresh ≡ true
 fresh-is-sound = fresh-test
 
@@ -32,30 +36,49 @@ step-keeps-sound m c e = tests-sound (next m c) .found (next-sound m (tests-soun
 pub run-is-sound : (cs : List Command) → sound (run fresh cs) ≡ true
 run-is-sound cs = tests-sound (run fresh cs) .found (run-sound cs fresh fresh-sound)
 
+-- A refused command keeps the state, and its answer releases nobody.
+-- Rules out: a refusal that ticks, or moves a task. Leaves: which commands are refused (Refusals.antt, Walk and Corners).
+pub refused-changes-nothing : (m : Machine) (c : Command) → refusal m c ≢ 0 → (next m c ≡ m) × (answer m c .running ≡ running m) × (answer m c .released ≡ 0)
+unfolding next released answer
+refused-changes-nothing m c n = rw (ne-eqb (refusal m c) 0 n) (refl, refl, refl)
+
 -- ## The promise on Wakes
 -- Whenever task t stands at index r of the delay line with its time at most the clock: count the accepted Wakes after that moment. While
 -- there are at most r of them, t stays in the line, at index r less their count, and no answer releases it; and the (r+1)th of them does.
--- Rules out: a past delay at the front of the line, ties in the wrong order before a due task, a Wake that skips or drops an entry, a
--- machine that works once and then pretends. Leaves: one that refuses every Wake (2 and 4 alone refuse it: Refusals.antt and the walk).
-pub wakes-promise : (before after : List Command) (t r : ℕ) → let m = run fresh before in
-    DueAt m t r → wakes-in m after ≤ r
+-- Rules out: a past delay at the front of the line, a Wake that skips or drops an entry, a machine that works once and then pretends.
+-- Leaves: one that refuses every Wake (wakes-left-seen below rules it out); ties in the wrong order, which only become due so (Placing,
+-- time-splits, and Walk, slips); and one in which nobody sleeps (the walk).
+-- It holds of every sound state, so of a saved one too; the fresh machine is the case that the promise is about.
+pub wakes-promise-sound : (m : Machine) (after : List Command) (t r : ℕ) → sound m ≡ true → DueAt m t r → wakes-in m after ≤ r
     → DueAt (run m after) t (r - wakes-in m after) × All (λ a. a .released ≢ t) (answers m after)
-wakes-promise before after t r d k = keeps-its-turn after (run fresh before) (run-sound before fresh fresh-sound) t r d k
+wakes-promise-sound m after t r e d k = keeps-its-turn after m (tests-sound m .sure e) t r d k
 
-pub wakes-promise-kept : (before after : List Command) (t r : ℕ) (c : Command) → let m = run fresh before in
-    DueAt m t r → wakes-in m after ≡ r → wakes (run m after) c ≡ true → answer (run m after) c .released ≡ t
+pub wakes-promise-sound-kept : (m : Machine) (after : List Command) (t r : ℕ) (c : Command) → sound m ≡ true
+    → DueAt m t r → wakes-in m after ≡ r → wakes (run m after) c ≡ true → answer (run m after) c .released ≡ t
 unfolding answer
-wakes-promise-kept before after t r c d k w =
-    let m = run fresh before in
-    let s = run-sound before fresh fresh-sound in
+wakes-promise-sound-kept m after t r c e d k w =
+    let s = tests-sound m .sure e in
     let i = keeps-its-turn after m s t r d (omega arith) in
     let z : r - wakes-in m after ≡ 0 = omega arith in
     at-wake (run m after) (run-sound after m s) t c w 0 (rw z at (i .0))
 
+pub wakes-promise : (before after : List Command) (t r : ℕ) → let m = run fresh before in
+    DueAt m t r → wakes-in m after ≤ r
+    → DueAt (run m after) t (r - wakes-in m after) × All (λ a. a .released ≢ t) (answers m after)
+wakes-promise before after t r d k = wakes-promise-sound (run fresh before) after t r (run-is-sound before) d k
+
+pub wakes-promise-kept : (before after : List Command) (t r : ℕ) (c : Command) → let m = run fresh before in
+    DueAt m t r → wakes-in m after ≡ r → wakes (run m after) c ≡ true → answer (run m after) c .released ≡ t
+wakes-promise-kept before after t r c d k w = wakes-promise-sound-kept (run fresh before) after t r c (run-is-sound before) d k w
+
 -- "Wakes left" is that count: its answer r + 1 says that t is due at index r, and so that the (r+1)th accepted Wake releases it; its answer
--- 0, that t is due at none. A made-up number falls to the release above.
+-- 0, that t is due at none. `question` is the answer as it is given, checks and all.
+-- Rules out: a count that is one too high or too low, a made-up number. Leaves: the code of a refused question (Corners, wakes-left-answers).
 pub wakes-left-says : (before : List Command) (t r : ℕ) → let m = run fresh before in (wakes-left m t ≡ suc r) ↔ DueAt m t r
 wakes-left-says before t r = let s = run-sound before fresh fresh-sound in (left-is-due (run fresh before) s t r, due-is-left (run fresh before) s t r)
+
+pub question-says : (before : List Command) (t r : ℕ) → let m = run fresh before in (question m t .left ≡ suc r) ↔ DueAt m t r
+question-says before t r = let s = run-sound before fresh fresh-sound in (question-left (run fresh before) s t r, left-question (run fresh before) s t r)
 
 pub none-left-says : (before : List Command) (t : ℕ) → let m = run fresh before in (wakes-left m t ≡ 0) ↔ ((r : ℕ) → DueAt m t r → ⊥)
 none-left-says before t = (λ e r d. omega (arith, due-is-left m s t r d), λ f. go (wakes-left m t) refl f)
@@ -72,6 +95,7 @@ none-left-says before t = (λ e r d. omega (arith, due-is-left m s t r d), λ f.
 
 -- Told from outside, after Start: the answer is r + 1 exactly if, of Wakes that follow one another, the (r+1)th releases t. And a Wake
 -- releases none but a due task.
+-- Rules out: a machine that refuses Wakes, or that releases whoever sleeps. Leaves: Wakes with other commands between (the promise above).
 pub wakes-left-seen : (before : List Command) (t r : ℕ) → let m = run fresh before in m .started ≡ true → t ≢ 0
     → (wakes-left m t ≡ suc r) ↔ (released (run m (replicate r a-wake)) a-wake ≡ t)
 wakes-left-seen before t r on n =
@@ -84,12 +108,28 @@ wake-releases-due before c w n = wake-takes-due (run fresh before) (run-sound be
 
 -- ## The invariant
 -- Where a task holds an object of ceiling c, every task ahead of it in the ready line has a base above c.
--- It is not true of every sound state, but every step keeps it.
+-- It is not true of every sound state (Walk's `saved` is sound, and it fails there), but every step keeps it.
+-- Rules out: a released task in front of a holder whose ceiling is its base; a ceiling that bars nobody.
+-- Leaves: who stands behind a holder (the ready line's order, `sound`).
 pub fresh-is-clear : Clear fresh
 fresh-is-clear = fresh-clear
 
 pub step-keeps-clear : (m : Machine) (c : Command) → sound m ≡ true → Clear m → Clear (next m c)
 step-keeps-clear m c e k = next-clear m (tests-sound m .sure e) k c
+
+-- The same over runs, with the ceiling by its own name.
+pub ahead-of-a-holder : (before : List Command) → let m = run fresh before in
+    Pairwise (λ a b. at (m .held) b ≢ 0 → at (m .ceiling) (at (m .held) b) < at (m .base) a) (m .ready)
+unfolding Clear
+ahead-of-a-holder before =
+    let m = run fresh before in
+    pairwise-map {P = λ x. Unit {0}} (λ a b u v w n. rw (act-held m b n) at (w n)) (m .ready) (all-every (λ x. tt) (m .ready)) (run-clear before fresh fresh-sound fresh-clear)
+
+-- An accepted closing (closep, closef, done) leaves the runner's hands empty: what the promise below calls "closed" is "no longer held".
+-- Rules out: closings that do nothing, or that keep the object. Leaves: whom a closing releases (the op table, and Corners, rows).
+pub closing-empties : (before : List Command) (c : Command) → let m = run fresh before in
+    accepts m c ≡ true → (c .op ≡ 8) ⊎ (c .op ≡ 9) ⊎ (c .op ≡ 11) → at (next m c .held) (runner m) ≡ 0
+closing-empties before c ok op = closed-holds-nothing (run fresh before) (run-sound before fresh fresh-sound) c ok op
 
 -- ## The promise on releases
 -- Whenever a command releases task t: there is one task `low` and one object such that, at every later moment at which t has not run yet
@@ -97,8 +137,10 @@ step-keeps-clear m c e k = next-clear m (tests-sound m .sure e) k c
 -- has held it at every moment since, so it has closed it at none of the commands between.
 -- `low` and the object are found at the release, before any later command is known: so the tasks of lower base that run at any two such
 -- moments are one task. Equal base is not lower. Idle holds nothing, so it does not run: see below.
--- Rules out: a released task of equal base in front, a closing runner that keeps its place, a second low task in between.
--- Leaves: one that releases nobody (the op table and the walk).
+-- Bases are those at the release: no command changes one after Start.
+-- Rules out: a closing runner that keeps its place, a second low task in between, a holder that loses its object unclosed.
+-- Leaves: one that releases nobody (the op table and the walk); closings that do nothing (closing-empties above); ceilings without effect
+-- (ahead-of-a-holder above, and Corners, rows); a released task in front of its equals (Goes, woken-to-tail).
 pub release-promise : (before : List Command) (c : Command) → let m = run fresh before in let now = next m c in let t = released m c in
     t ≢ 0 → (low : ℕ) × (object : ℕ) × ((after : List Command) → All (λ s. running s ≢ t) (moments now after)
     → let then = run now after in at (now .base) (running then) < at (now .base) t
@@ -110,6 +152,7 @@ release-promise before c n =
     (w .0, at (m .held) (w .0), λ after k lt. lower-runs after (next m c) (next-sound m s c) (w .2) (released m c) (at (m .base) (released m c)) (w .0) (at (m .held) (w .0)) (w .1) k (rw (w .1 .rank) at lt))
 
 -- The same of two moments: whoever of lower base runs at the end of one way on from the release, and of another, is one task.
+-- Rules out: a low task that depends on what comes later. Leaves: that it holds an object (the promise itself).
 pub one-lower-task : (before : List Command) (c : Command) (to-i to-j : List Command) → let m = run fresh before in let now = next m c in let t = released m c in
     t ≢ 0 → All (λ s. running s ≢ t) (moments now to-i) → All (λ s. running s ≢ t) (moments now to-j)
     → at (now .base) (running (run now to-i)) < at (now .base) t → at (now .base) (running (run now to-j)) < at (now .base) t
@@ -117,6 +160,7 @@ pub one-lower-task : (before : List Command) (c : Command) (to-i to-j : List Com
 one-lower-task before c to-i to-j n ki kj li lj = let w = release-promise before c n in w .2 to-i ki li .0 ∙ sym (w .2 to-j kj lj .0)
 
 -- Idle, which holds nothing, runs at no such moment.
+-- Rules out: a released task that is put behind idle, or lost. Leaves: which of the others runs (the promise itself).
 pub idle-does-not-run : (before : List Command) (c : Command) (after : List Command) → let m = run fresh before in let now = next m c in let t = released m c in
     t ≢ 0 → All (λ s. running s ≢ t) (moments now after) → running (run now after) ≢ 0
 idle-does-not-run before c after n k e =

@@ -61,13 +61,13 @@ walk-lines = refl
 
 -- A command with several faults gets the first number in the order 4, 2 or 3, 5 to 13. After the set-up task 2 (base 5) runs; behind
 -- the walk's first nine commands it runs again, and task 1 holds object 1 (ceiling 4); after three delays idle runs.
-abbrev asleep : List Command
+abbrev pub asleep : List Command
 asleep = set-up ++ (cmd 4 0 0 9 ∷ cmd 4 0 0 9 ∷ cmd 4 0 0 9 ∷ [])
 
-abbrev inside : List Command
+abbrev pub inside : List Command
 inside = set-up ++ (cmd 4 0 0 10 ∷ cmd 7 1 0 0 ∷ [])
 
-abbrev code-behind : List Command → Command → ℕ
+abbrev pub code-behind : List Command → Command → ℕ
 code-behind cs c = refusal (run fresh cs) c
 
 pub order-of-checks :
@@ -115,7 +115,7 @@ refused-keeps = refl
 
 -- 11 is met in no run from the fresh machine, but in a saved state: task 1 runs, task 2 of the same base holds object 1 behind it, and
 -- task 3 waits there. It comes before 12.
-abbrev saved : Machine
+abbrev pub saved : Machine
 saved =
     record { base = 0 ∷ 3 ∷ 3 ∷ 3 ∷ replicate 28 0; ceiling = 0 ∷ 3 ∷ replicate 6 0; held = 0 ∷ 0 ∷ 1 ∷ replicate 29 0; way = 0 ∷ 0 ∷ 1 ∷ replicate 29 0; queue = [] ∷ (3 ∷ []) ∷ replicate 6 []; ready = 1 ∷ 2 ∷ 0 ∷ []; delay = []; clock = 5; started = true }
 

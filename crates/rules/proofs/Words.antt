@@ -44,6 +44,7 @@ pub record DueAt (m : Machine) (t r : ℕ) : Type 0 where
   pub task : getD (m .delay) r (0, 0) .1 ≡ t
   pub due : getD (m .delay) r (0, 0) .0 ≤ m .clock
 
--- where b holds an object, every task ahead of b in the ready line has a base above its ceiling, which is b's active priority
+-- the way ahead of a holder is clear of tasks that its ceiling should have barred: where b holds an object, every task ahead of b in the
+-- ready line has a base above b's active priority, which is the object's ceiling
 unfoldable pub Clear : Machine → Type 0
 Clear m = Pairwise (λ a b. at (m .held) b ≢ 0 → active m b < at (m .base) a) (m .ready)
