@@ -1,0 +1,10 @@
+pub mod Loops
+pub mod Padded
+pub mod Round
+pub mod Written
+pub mod Rows
+pub mod Whole
+pub mod Asked
+pub mod Marks
+pub mod Tested
+pub mod Question

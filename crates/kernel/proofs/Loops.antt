@@ -1,0 +1,96 @@
+-- What one turn of a loop of the test does: the conditions gathered over all tasks or objects, and the holders one after the other.
+-- Assumes nothing.
+use Prim.Native.Nat.{ℕ, zero, suc, _+_, _-_, _≤_, _<_, _^_}
+use native.Mathlib.Omega.{arith}
+use native.Mathlib.Numerals.{add-one}
+use mathlib.Core.Path.{_≡_, refl, sym, ap, _∙_}
+use mathlib.Core.Logic.{_≢_}
+use mathlib.Core.Bool.{Bool, true, false, cond, not, _&&_}
+use mathlib.Core.List.{List, [], _∷_}
+use lib.Dec.{eqb, leb, ltb}
+use lib.ListN.{length, getD, drop, set, drop-of-length-le}
+use lib.Seq.{drop-cons}
+use borrow.Author.Tests.{eq-eqb, ne-eqb, le-leb, lt-leb, leb-true, ltb-true, ltb-false, lt-ltb, le-ltb}
+use Rattle.rules.specs.Line.{at, all-below, within}
+use Rattle.rules.specs.Machine.{Command}
+use Rattle.rules.specs.Refusals.{formed, fits, operands}
+use Rattle.kernel.specs.Test.{holdersFit, admits}
+
+-- a condition of each number below n, gathered
+pub gather : (f : ℕ → Bool) (n : ℕ) (b : Bool) → b ≡ all-below n f → f n && b ≡ all-below (n + 1) f
+unfolding all-below
+gather f n b e = rw (add-one, e)
+
+module _ (ceiling taken base held : List ℕ) (t : ℕ) (h : t < length held) (k : t < length base) where
+  turn : holdersFit ceiling taken (drop t base) (drop t held) ≡ holdersFit ceiling taken (at base t ∷ drop (suc t) base) (at held t ∷ drop (suc t) held)
+  turn = rw (drop-cons held t 0 h, drop-cons base t 0 k)
+
+  pub holders-skip : at held t ≡ 0 → holdersFit ceiling taken (drop t base) (drop t held) ≡ holdersFit ceiling taken (drop (t + 1) base) (drop (t + 1) held)
+  unfolding holdersFit
+  holders-skip e = turn ∙ rw (eq-eqb (at held t) 0 e, add-one)
+
+  module _ (n : at held t ≡ 0 → ⊥) where
+    pub holders-out : 8 ≤ at held t → holdersFit ceiling taken (drop t base) (drop t held) ≡ false
+    unfolding holdersFit
+    holders-out o = turn ∙ rw (ne-eqb (at held t) 0 n, le-leb 8 (at held t) o)
+
+    pub holders-stop : at held t < 8 → eqb (at taken (at held t)) 0 && admits (at ceiling (at held t)) (at base t) ≡ false → holdersFit ceiling taken (drop t base) (drop t held) ≡ false
+    unfolding holdersFit
+    holders-stop o e = turn ∙ rw (ne-eqb (at held t) 0 n, lt-leb 8 (at held t) o, e)
+
+    pub holders-step : at held t < 8 → eqb (at taken (at held t)) 0 && admits (at ceiling (at held t)) (at base t) ≡ true
+        → holdersFit ceiling taken (drop t base) (drop t held) ≡ holdersFit ceiling (set taken (at held t) 1) (drop (t + 1) base) (drop (t + 1) held)
+    unfolding holdersFit
+    holders-step o e = turn ∙ rw (ne-eqb (at held t) 0 n, lt-leb 8 (at held t) o, e, add-one)
+
+pub holders-done : (ceiling taken base held : List ℕ) (t : ℕ) → length held ≤ t → holdersFit ceiling taken (drop t base) (drop t held) ≡ true
+unfolding holdersFit
+holders-done ceiling taken base held t h = rw (drop-of-length-le held h)
+
+-- the clock's end
+pub past-end : (clock n : ℕ) → clock < 2 ^ 64 → ltb (18446744073709551615 - clock) n ≡ not (ltb (clock + n) (2 ^ 64))
+past-end clock n h = go (ltb (clock + n) (2 ^ 64)) refl
+  where
+    go : (b : Bool) → ltb (clock + n) (2 ^ 64) ≡ b → ltb (18446744073709551615 - clock) n ≡ not b
+    go true e = let z : clock + n < 2 ^ 64 = ltb-true _ _ e in le-ltb (18446744073709551615 - clock) n (omega arith)
+    go false e = let z : 2 ^ 64 ≤ clock + n = ltb-false _ _ e in lt-ltb (18446744073709551615 - clock) n (omega arith)
+
+pub and-yes : (b : Bool) → b && true ≡ b
+and-yes true = refl
+and-yes false = refl
+
+-- what is none of the ops 1..11
+up : (k op : ℕ) → k ≤ op → op ≢ k → suc k ≤ op
+up k op h n = omega arith
+
+pub unknown-op : (op : ℕ) → op ≢ 1 → op ≢ 2 → op ≢ 3 → op ≢ 4 → op ≢ 5 → op ≢ 6 → op ≢ 7 → op ≢ 8 → op ≢ 9 → op ≢ 10 → op ≢ 11 → within 1 11 op ≡ false
+unknown-op op n1 n2 n3 n4 n5 n6 n7 n8 n9 n10 n11 = go (leb 1 op) refl
+  where
+    past : 1 ≤ op → 12 ≤ op
+    past h = up 11 op (up 10 op (up 9 op (up 8 op (up 7 op (up 6 op (up 5 op (up 4 op (up 3 op (up 2 op (up 1 op h n1) n2) n3) n4) n5) n6) n7) n8) n9) n10) n11
+
+    go : (a : Bool) → leb 1 op ≡ a → a && leb op 11 ≡ false
+    go false e = refl
+    go true e = lt-leb op 11 (past (leb-true 1 op e))
+
+pub not-formed : (c : Command) → within 1 11 (c .op) ≡ false → false ≡ formed c
+not-formed c e =
+    let u = operands (c .op) in
+    ap (λ (b : Bool). b && fits (u .a) (c .a) && fits (u .b) (c .b) && fits (u .value) (c .value)) (sym e)
+
+-- the row of an op that has none of its own
+pub other-op : {A : Type 0} (d x1 x2 x3 x4 x5 x7 x8 x9 x10 x11 : A) (op : ℕ) → op ≢ 1 → op ≢ 2 → op ≢ 3 → op ≢ 4 → op ≢ 5 → op ≢ 7 → op ≢ 8 → op ≢ 9 → op ≢ 10 → op ≢ 11
+    → d ≡ getD (d ∷ x1 ∷ x2 ∷ x3 ∷ x4 ∷ x5 ∷ d ∷ x7 ∷ x8 ∷ x9 ∷ x10 ∷ x11 ∷ []) op d
+other-op d x1 x2 x3 x4 x5 x7 x8 x9 x10 x11 zero n1 n2 n3 n4 n5 n7 n8 n9 n10 n11 = refl
+other-op d x1 x2 x3 x4 x5 x7 x8 x9 x10 x11 (suc zero) n1 n2 n3 n4 n5 n7 n8 n9 n10 n11 = absurd (n1 refl)
+other-op d x1 x2 x3 x4 x5 x7 x8 x9 x10 x11 (suc (suc zero)) n1 n2 n3 n4 n5 n7 n8 n9 n10 n11 = absurd (n2 refl)
+other-op d x1 x2 x3 x4 x5 x7 x8 x9 x10 x11 (suc (suc (suc zero))) n1 n2 n3 n4 n5 n7 n8 n9 n10 n11 = absurd (n3 refl)
+other-op d x1 x2 x3 x4 x5 x7 x8 x9 x10 x11 (suc (suc (suc (suc zero)))) n1 n2 n3 n4 n5 n7 n8 n9 n10 n11 = absurd (n4 refl)
+other-op d x1 x2 x3 x4 x5 x7 x8 x9 x10 x11 (suc (suc (suc (suc (suc zero))))) n1 n2 n3 n4 n5 n7 n8 n9 n10 n11 = absurd (n5 refl)
+other-op d x1 x2 x3 x4 x5 x7 x8 x9 x10 x11 (suc (suc (suc (suc (suc (suc zero)))))) n1 n2 n3 n4 n5 n7 n8 n9 n10 n11 = refl
+other-op d x1 x2 x3 x4 x5 x7 x8 x9 x10 x11 (suc (suc (suc (suc (suc (suc (suc zero))))))) n1 n2 n3 n4 n5 n7 n8 n9 n10 n11 = absurd (n7 refl)
+other-op d x1 x2 x3 x4 x5 x7 x8 x9 x10 x11 (suc (suc (suc (suc (suc (suc (suc (suc zero)))))))) n1 n2 n3 n4 n5 n7 n8 n9 n10 n11 = absurd (n8 refl)
+other-op d x1 x2 x3 x4 x5 x7 x8 x9 x10 x11 (suc (suc (suc (suc (suc (suc (suc (suc (suc zero))))))))) n1 n2 n3 n4 n5 n7 n8 n9 n10 n11 = absurd (n9 refl)
+other-op d x1 x2 x3 x4 x5 x7 x8 x9 x10 x11 (suc (suc (suc (suc (suc (suc (suc (suc (suc (suc zero)))))))))) n1 n2 n3 n4 n5 n7 n8 n9 n10 n11 = absurd (n10 refl)
+other-op d x1 x2 x3 x4 x5 x7 x8 x9 x10 x11 (suc (suc (suc (suc (suc (suc (suc (suc (suc (suc (suc zero))))))))))) n1 n2 n3 n4 n5 n7 n8 n9 n10 n11 = absurd (n11 refl)
+other-op d x1 x2 x3 x4 x5 x7 x8 x9 x10 x11 (suc (suc (suc (suc (suc (suc (suc (suc (suc (suc (suc (suc op)))))))))))) n1 n2 n3 n4 n5 n7 n8 n9 n10 n11 = refl

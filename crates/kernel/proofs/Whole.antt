@@ -1,0 +1,191 @@
+-- The whole step on the tables of a sound machine is the rules' step: the refusals are the rules' refusals, each accepted op is its row
+-- carried out, and the question counts what the rules count. Assumes nothing.
+use Prim.Native.Nat.{ℕ, zero, suc, _≤_, _<_}
+use native.Mathlib.Nat.{add-zero}
+use native.Mathlib.Omega.{arith}
+use mathlib.Core.Path.{_≡_, refl, sym, ap, _∙_, subst}
+use mathlib.Core.Logic.{_≢_}
+use mathlib.Core.List.{List, [], _∷_, map}
+use mathlib.Core.Bool.{Bool, true, false, cond, not, _&&_, _||_, true≢false}
+use lib.ListN.{getD, List·getD-map}
+use lib.Dec.{eqb, leb, ltb}
+use borrow.Author.Tests.{eqb-true, ne-eqb, lt-ltb, leb-true, not-false}
+use Rattle.rules.specs.Line.{at, front, empty, first-alone, within}
+use Rattle.rules.specs.Machine.{Machine, Command, tasks, running}
+use Rattle.rules.specs.Table as T
+use Rattle.rules.specs.Table.{Out, same, take, yield, close, sleep, await, none, due, serve, moves, first-due, effect, freed, freed-by, release, leave, carry}
+use Rattle.rules.specs.Refusals.{refusal, fits, operands}
+use Rattle.rules.specs.Run.{next, released, answer}
+use Rattle.rules.specs.Run as R
+use Rattle.rules.proofs.Words.{All, cmd}
+use Rattle.rules.proofs.Tests.{and-true}
+use Rattle.rules.proofs.Sounds.{Sound}
+use Rattle.rules.proofs.Kept.{AllowedOut, release-sound}
+use Rattle.rules.proofs.Accepted.{check-passed, allowed}
+use Rattle.line.specs.Tables.{time-in}
+use Rattle.kernel.specs.declared.Kernel.{Kernel}
+use Rattle.kernel.specs.declared.Stepped.{Stepped}
+use Rattle.kernel.specs.View.{encode, view, times, pad}
+use Rattle.kernel.specs.Public.{isSound, report, stepOf}
+use Rattle.kernel.specs.Step.{first, answered, dueOf, wakeOf, closepOf, carriedOf, refusedOf, refusal-on, refused, refused-formed, steppedOf, advancedOf, wokenOf, closedOf, servedOf, sleptOf, yieldedOf, heldOf, awaitingOf}
+use Rattle.kernel.proofs.Padded.{front-pad, Right, own-right}
+use Rattle.kernel.proofs.Round.{waiting-tasks, delayed-tasks, sound-own}
+use Rattle.kernel.proofs.Written.{stands, step-on}
+use Rattle.kernel.proofs.Rows.{create-tie, declare-tie, begin-tie, yield-tie, sleep-tie, advance-tie, take-tie, close-tie, await-tie, woken-tie, served-tie, nobody-served}
+
+-- no ticks later is now
+pub later-zero : (m : Machine) → T.later m 0 ≡ m
+later-zero m = rw (add-zero (m .clock))
+
+pub release-none : (m : Machine) → release none m ≡ m
+unfolding release
+release-none m = refl
+
+-- The answer of an accepted op.
+pub answered-report : (n : Machine) (t : ℕ) → answered (encode n) t ≡ report (encode n) (record { code = 0; running = running n; released = t })
+unfolding encode
+answered-report n t = rw (front-pad 31 (n .ready))
+
+module _ (m : Machine) (s : Sound m) where
+  -- who waits on an object: the first of its queue, 0 for nobody
+  waiter-tie : (o : ℕ) → at (encode m .waiter) o ≡ front 0 (getD (m .queue) o [])
+  unfolding encode
+  waiter-tie o = List·getD-map (front 0) (m .queue) o []
+
+  nobody : (q : List ℕ) → All (λ t. t ≢ 0) q → eqb (front 0 q) 0 ≡ empty q
+  nobody [] h = refl
+  nobody (x ∷ q) h = ne-eqb x 0 (h .0)
+
+  not-not : (b : Bool) → not (not b) ≡ b
+  not-not true = refl
+  not-not false = refl
+
+  or-false : (b : Bool) → b || false ≡ b
+  or-false true = refl
+  or-false false = refl
+
+  -- The checks over what they look at are the rules' checks.
+  pub refusal-tie : (c : Command) → refusal-on (encode m) c ≡ refusal m c
+  unfolding refusedOf refused-formed refusal encode
+  refusal-tie c =
+      let w : eqb (at (map (front 0) (m .queue)) (c .a)) 0 ≡ empty (getD (m .queue) (c .a) []) = ap (λ (x : ℕ). eqb x 0) (List·getD-map (front 0) (m .queue) (c .a) []) ∙ nobody (getD (m .queue) (c .a) []) (waiting-tasks m s (c .a)) in
+      rw (front-pad 31 (m .ready), w, not-not (eqb (at (m .ceiling) (c .a)) 0), or-false (eqb (c .op) 10), or-false (eqb (c .op) 9))
+
+-- Wake: the first of the delay line, if it is due.
+due-of : (l : List (ℕ × ℕ)) (u : List ℕ) (now : ℕ) → All (Right u) l → All (λ x. (x < 32) × (x ≢ 0)) (tasks l)
+    → cond (leb (time-in u (at (pad 32 (tasks l)) 0)) now) (at (pad 32 (tasks l)) 0) 0 ≡ cond (not (empty l) && leb (front (0, 0) l .0) now) (front 0 (tasks l)) 0
+due-of [] u now r k = elim (leb (time-in u 0) now) as (λ (b : Bool). cond {A = ℕ} b 0 0 ≡ 0) [ true ↦ refl | false ↦ refl ]
+due-of (e ∷ l) u now r k = rw (lt-ltb (e .1) 32 (k .0 .0), r .0 .0)
+
+due-first : (l : List (ℕ × ℕ)) (now : ℕ) → not (empty l) && leb (front (0, 0) l .0) now ≡ true → first-alone (tasks l) ≡ front 0 (tasks l) ∷ []
+due-first [] now e = absurd (true≢false (sym e))
+due-first (f ∷ l) now e = refl
+
+first-real : (l : List ℕ) → All (λ x. (x < 32) × (x ≢ 0)) l → first-alone l ≡ front 0 l ∷ [] → front 0 l ≢ 0
+first-real [] k e = let z : _≡_ {A = ℕ} 0 1 = cc in absurd (omega arith)
+first-real (x ∷ l) k e = k .0 .1
+
+module _ (m : Machine) (s : Sound m) (on : m .started ≡ true) where
+  due-tie : dueOf (encode m) ≡ cond (first-due m) (front 0 (tasks (m .delay))) 0
+  unfolding encode
+  due-tie = due-of (m .delay) (times (m .delay)) (m .clock) (own-right (m .delay) (sound-own m s)) (delayed-tasks m s)
+
+  pub wake-tie : wakeOf (encode m) ≡ answered (encode (carry m (moves same (cond (first-due m) due none) 0))) (front 0 (freed (cond (first-due m) due none) m))
+  unfolding wakeOf carry leave
+  wake-tie = rw due-tie (go (first-due m) refl)
+    where
+      t : ℕ
+      t = front 0 (tasks (m .delay))
+
+      go : (b : Bool) → first-due m ≡ b → cond (eqb (cond b t 0) 0) (advancedOf (encode m) 0) (wokenOf (encode m) (cond b t 0)) ≡ answered (encode (T.later (release (cond b due none) m) 0)) (front 0 (freed (cond b due none) m))
+      go true e =
+          let f = due-first (m .delay) (m .clock) e in
+          rw (ne-eqb t 0 (first-real (tasks (m .delay)) (delayed-tasks m s) f), later-zero (release due m), woken-tie m s t f, f)
+      go false e = rw (release-none m) (advance-tie m s 0 (omega (arith, s .clock-fits)))
+
+  -- closep: whoever waits is served, and then the runner closes
+  pub closep-tie : (o b : ℕ) → closepOf (encode m) o b ≡ answered (encode (carry m (moves close (cond (eqb b 1) (serve o) none) 0))) (front 0 (freed (cond (eqb b 1) (serve o) none) m))
+  unfolding closepOf carry
+  closep-tie o b = rw (waiter-tie m s o) (go (eqb b 1))
+    where
+      served : (q : List ℕ) → getD (m .queue) o [] ≡ q → All (λ t. t ≢ 0) q
+          → cond (eqb (front 0 q) 0) (closedOf (encode m) 0) (closedOf (servedOf (encode m) o (front 0 q)) (front 0 q)) ≡ answered (encode (T.later (leave close (release (serve o) m)) 0)) (front 0 (first-alone q))
+      served [] e k = rw (nobody-served m s o e, later-zero (leave close m)) (close-tie m s 0)
+      served (x ∷ q) e k =
+          let f : freed (serve o) m ≡ x ∷ [] = ap (λ (l : List ℕ). first-alone l) e in
+          rw (ne-eqb x 0 (k .0), served-tie m s o x f, later-zero (leave close (release (serve o) m))) (close-tie (release (serve o) m) (release-sound m s on (serve o)) x)
+
+      go : (x : Bool) → cond (eqb (cond x (front 0 (getD (m .queue) o [])) 0) 0) (closedOf (encode m) 0) (closedOf (servedOf (encode m) o (cond x (front 0 (getD (m .queue) o [])) 0)) (cond x (front 0 (getD (m .queue) o [])) 0))
+          ≡ answered (encode (T.later (leave close (release (cond x (serve o) none) m)) 0)) (front 0 (freed (cond x (serve o) none) m))
+      go true = served (getD (m .queue) o []) refl (waiting-tasks m s o)
+      go false = rw (release-none m, later-zero (leave close m)) (close-tie m s 0)
+
+-- Every accepted op.
+module _ (m : Machine) (s : Sound m) where
+  still : (out : Out) (t : ℕ) → answered (encode (leave out m)) t ≡ answered (encode (carry m (moves out none 0))) t
+  unfolding carry
+  still out t = rw (release-none m, later-zero (leave out m))
+
+  leaves : (out : Out) → AllowedOut (release none m) out → AllowedOut m out
+  leaves out g = subst (λ (n : Machine). AllowedOut n out) (release-none m) g
+
+  clock-tie : encode m .clock ≡ m .clock
+  unfolding encode
+  clock-tie = refl
+
+  advance-row : (n : ℕ) → answered (encode (T.later m n)) 0 ≡ answered (encode (carry m (moves same none n))) 0
+  unfolding carry leave release
+  advance-row n = refl
+
+  unknown : {A : Type 0} (op a b v : ℕ) → refusal m (cmd op a b v) ≡ 0 → (1 ≤ op → op ≤ 11 → ⊥) → A
+  unknown op a b v ok n =
+      let f = and-true (within 1 11 op && fits (operands op .a) a && fits (operands op .b) b) (fits (operands op .value) v) (not-false _ (check-passed m (cmd op a b v) ok 4)) .0 in
+      let g = and-true (within 1 11 op && fits (operands op .a) a) (fits (operands op .b) b) f .0 in
+      let h = and-true (within 1 11 op) (fits (operands op .a) a) g .0 in
+      let k = and-true (leb 1 op) (leb op 11) h in
+      absurd (n (leb-true _ _ (k .0)) (leb-true _ _ (k .1)))
+
+  delay-row : (v : ℕ) (b : Bool) → AllowedOut m (cond b (sleep v) yield) → cond b (sleptOf (encode m) v) (yieldedOf (encode m)) ≡ answered (encode (carry m (moves (cond b (sleep v) yield) none 0))) 0
+  delay-row v true g = sleep-tie m s v ∙ still (sleep v) 0
+  delay-row v false g = yield-tie m s g ∙ still yield 0
+
+  entry-row : (o : ℕ) (b : Bool) → AllowedOut m (cond b (take o 2) (await o)) → cond b (heldOf (encode m) o 2) (awaitingOf (encode m) o) ≡ answered (encode (carry m (moves (cond b (take o 2) (await o)) none 0))) 0
+  entry-row o true g = take-tie m s o 2 ∙ still (take o 2) 0
+  entry-row o false g = await-tie m s o g ∙ still (await o) 0
+
+  by-op : (op a b v : ℕ) → refusal m (cmd op a b v) ≡ 0 → carriedOf (encode m) (cmd op a b v) ≡ answered (encode (carry m (effect m (cmd op a b v)))) (freed-by (effect m (cmd op a b v)) m)
+  unfolding carriedOf
+  by-op zero a b v ok = unknown 0 a b v ok (λ h k. omega arith)
+  by-op (suc zero) a b v ok = create-tie m s a b (allowed m s (cmd 1 a b v) ok)
+  by-op (suc (suc zero)) a b v ok = declare-tie m s a b
+  by-op (suc (suc (suc zero))) a b v ok = begin-tie m s
+  by-op (suc (suc (suc (suc zero)))) a b v ok = ap (λ (n : ℕ). cond (ltb n v) (sleptOf (encode m) v) (yieldedOf (encode m))) clock-tie ∙ (delay-row v (ltb (m .clock) v) (leaves (cond (ltb (m .clock) v) (sleep v) yield) (allowed m s (cmd 4 a b v) ok .leaves)))
+  by-op (suc (suc (suc (suc (suc zero))))) a b v ok = wake-tie m s (allowed m s (cmd 5 a b v) ok .on)
+  by-op (suc (suc (suc (suc (suc (suc zero)))))) a b v ok = advance-tie m s v (allowed m s (cmd 6 a b v) ok .in-time) ∙ advance-row v
+  by-op (suc (suc (suc (suc (suc (suc (suc zero))))))) a b v ok = take-tie m s a 1 ∙ still (take a 1) 0
+  by-op (suc (suc (suc (suc (suc (suc (suc (suc zero)))))))) a b v ok = closep-tie m s (allowed m s (cmd 8 a b v) ok .on) a b
+  by-op (suc (suc (suc (suc (suc (suc (suc (suc (suc zero))))))))) a b v ok = close-tie m s 0 ∙ still close 0
+  by-op (suc (suc (suc (suc (suc (suc (suc (suc (suc (suc zero)))))))))) a b v ok = entry-row a (eqb b 1) (leaves (cond (eqb b 1) (take a 2) (await a)) (allowed m s (cmd 10 a b v) ok .leaves))
+  by-op (suc (suc (suc (suc (suc (suc (suc (suc (suc (suc (suc zero))))))))))) a b v ok = close-tie m s 0 ∙ still close 0
+  by-op (suc (suc (suc (suc (suc (suc (suc (suc (suc (suc (suc (suc op)))))))))))) a b v ok = unknown (suc (suc (suc (suc (suc (suc (suc (suc (suc (suc (suc (suc op)))))))))))) a b v ok (λ h k. omega arith)
+
+  running-tie : cond (encode m .started) (first (encode m)) 0 ≡ running m
+  unfolding encode
+  running-tie = rw (front-pad 31 (m .ready))
+
+  -- The step of tables that passed the test.
+  pub stepped-tie : (c : Command) → steppedOf (encode m) c ≡ report (encode (next m c)) (answer m c)
+  unfolding steppedOf next answer released
+  stepped-tie c = rw (refusal-tie m s c) (go (eqb (refusal m c) 0) refl)
+    where
+      go : (b : Bool) → eqb (refusal m c) 0 ≡ b
+          → cond b (carriedOf (encode m) c) (record { next = encode m; answer = refused (refusal m c) (cond (encode m .started) (first (encode m)) 0) })
+          ≡ report (encode (cond b (carry m (effect m c)) m)) (record { code = refusal m c; running = running (cond b (carry m (effect m c)) m); released = cond b (freed-by (effect m c) m) 0 })
+      go true e = by-op (c .op) (c .a) (c .b) (c .value) (eqb-true _ _ e) ∙ (answered-report (carry m (effect m c)) (freed-by (effect m c) m) ∙ ap (λ (n : ℕ). report (encode (carry m (effect m c))) (record { code = n; running = running (carry m (effect m c)); released = freed-by (effect m c) m })) (sym (eqb-true _ _ e)))
+      go false e = ap (λ (x : ℕ). let z : Stepped = record { next = encode m; answer = refused (refusal m c) x } in z) running-tie
+
+-- So for every sound state it is what the public contract says.
+pub step-meets : (k : Kernel) (c : Command) → isSound k ≡ true → steppedOf k c ≡ stepOf k c
+step-meets k c e =
+    let w = stands k e in
+    subst (λ (x : Kernel). steppedOf x c ≡ stepOf x c) (w .written) (stepped-tie (view k) (w .machine) c ∙ sym (step-on (view k) (w .machine) c))

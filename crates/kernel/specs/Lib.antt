@@ -1,0 +1,4 @@
+pub mod View
+pub mod Public
+pub mod Step
+pub mod Test

@@ -1,0 +1,75 @@
+-- What the tables stand for: the machine of the rules, read off them and written into them.
+use Prim.Native.Nat.{ℕ, zero, suc}
+use mathlib.Core.Bool.{Bool, true, false, cond, _&&_, _||_}
+use mathlib.Core.List.{List, [], _∷_, map}
+use lib.Dec.{eqb, leb}
+use lib.ListN.{length, set, replicate}
+use Rattle.rules.specs.Line.{at, count, front, all-below}
+use Rattle.rules.specs.Machine.{Machine, tasks}
+use Rattle.line.specs.Tables.{ended}
+use Rattle.kernel.specs.declared.Kernel.{Kernel}
+
+-- The entries of a line before its first free place; in the ready line idle stands behind them.
+abbrev pub live : List ℕ → List ℕ
+live [] = []
+live (x ∷ l) = cond (eqb x 0) [] (x ∷ live l)
+
+abbrev pub with-idle : List ℕ → List ℕ
+with-idle [] = 0 ∷ []
+with-idle (x ∷ l) = cond (eqb x 0) (0 ∷ []) (x ∷ with-idle l)
+
+-- Each delayed task with its time.
+abbrev pub timed : List ℕ → List ℕ → List (ℕ × ℕ)
+timed until [] = []
+timed until (t ∷ l) = (at until t, t) ∷ timed until l
+
+-- A cell as a queue: 0 is nobody.
+abbrev pub nobody-or : ℕ → List ℕ
+nobody-or w = cond (eqb w 0) [] (w ∷ [])
+
+-- Reading the tables.
+unfoldable pub view : Kernel → Machine
+view k = record {
+  base = k .base;
+  ceiling = k .ceiling;
+  held = k .held;
+  way = k .way;
+  queue = map nobody-or (k .waiter);
+  ready = with-idle (k .ready);
+  delay = timed (k .until) (live (k .delayed));
+  clock = k .clock;
+  started = k .started;
+}
+
+-- The first n entries, with 0 for those that are missing.
+abbrev pub pad : ℕ → List ℕ → List ℕ
+pad zero l = []
+pad (suc n) [] = 0 ∷ pad n []
+pad (suc n) (x ∷ l) = x ∷ pad n l
+
+-- The times of the delay line by task, 0 for any other task.
+abbrev pub times : List (ℕ × ℕ) → List ℕ
+times [] = replicate 32 0
+times (e ∷ l) = set (times l) (e .1) (e .0)
+
+-- Writing the tables.
+unfoldable pub encode : Machine → Kernel
+encode m = record {
+  base = m .base;
+  ready = pad 32 (m .ready);
+  delayed = pad 32 (tasks (m .delay));
+  held = m .held;
+  way = m .way;
+  until = times (m .delay);
+  ceiling = m .ceiling;
+  waiter = map (front 0) (m .queue);
+  clock = m .clock;
+  started = m .started;
+}
+
+-- Tables are tidy if they have their sizes, free places stand at a line's end only, and only delayed tasks have a time.
+unfoldable pub tidy : Kernel → Bool
+tidy k =
+    eqb (length (k .base)) 32 && eqb (length (k .ready)) 32 && eqb (length (k .delayed)) 32 && eqb (length (k .held)) 32 && eqb (length (k .way)) 32 &&
+    eqb (length (k .until)) 32 && eqb (length (k .ceiling)) 8 && eqb (length (k .waiter)) 8 &&
+    ended (k .ready) && ended (k .delayed) && all-below 32 (λ t. eqb (at (k .until) t) 0 || leb 1 (count t (live (k .delayed))))

@@ -1,0 +1,136 @@
+// Commands, answers, and the numbers of refusal.
+ghost use Prim.Native.Nat.{_+_, _^_};
+ghost use mathlib.Core.Path.{_≡_};
+ghost use mathlib.Core.Bool.{not};
+ghost use lib.Dec.{ltb};
+ghost use Rattle.rules.specs.Refusals.{formed};
+ghost use Rattle.kernel.specs.Public.{said};
+ghost use Rattle.kernel.specs.Step.{refused-formed, refusedOf, refusal-on};
+use crate::Kernel;
+use line::POId;
+use line::TaskID;
+
+// Any numbers: an op that is not 1..11 is refused, and so is an operand out of its range.
+pub struct Command {
+    pub op: u8,
+    pub a: u8,
+    pub b: u8,
+    pub value: u64,
+}
+
+// The number of the refusal, 0 for none; the running task after the step; the released task, 0 for nobody.
+pub struct Answer {
+    pub code: u8,
+    pub running: TaskID,
+    pub released: TaskID,
+}
+
+// What the tests of a command look at: the runner's cells, and those of the task or object that it names.
+pub struct Case {
+    pub started: bool,
+    pub clock: u64,
+    pub runner: u8,
+    pub base: u8,
+    pub held: u8,
+    pub way: u8,
+    // the base of the task a that the command names; the ceiling of the object a, who waits on it, and how many hold it
+    pub named: u8,
+    pub ceiling: u8,
+    pub waiter: u8,
+    pub holders: u8,
+}
+
+impl Command {
+    // Range: a known op, and each operand what it may be.
+    pub fn formed(self) -> bool
+        ensures { λ r. ⌜ r ≡ formed (said self) ⌝ }
+    {
+        let op = self.op;
+        let a = self.a;
+        let b = self.b;
+        let task = (1 <= a) & (a <= 31);
+        let object = (1 <= a) & (a <= 7);
+        let priority = (1 <= b) & (b <= 15);
+        let none = self.value == 0;
+        match op {
+            1 => task & priority & none,
+            2 => object & priority & none,
+            3 => (a == 0) & (b == 0) & none,
+            4 => (a == 0) & (b == 0),
+            5 => (a == 0) & (b == 0) & none,
+            6 => (a == 0) & (b == 0),
+            7 => object & (b == 0) & none,
+            8 => object & (b <= 1) & none,
+            9 => object & (b == 0) & none,
+            10 => object & (b <= 1) & none,
+            11 => object & (b == 0) & none,
+            _ => false,
+        }
+    }
+
+    // The number of the first test that holds behind Range, 0 where none does: the last test first.
+    pub fn refused_formed(self, s: Case) -> u8
+        ensures { λ r. ⌜ r ≡ refused-formed (said self) s ⌝ }
+    {
+        let op = self.op;
+        let a = self.a;
+        let uses = (7 <= op) & (op <= 11);
+        let takes = (op == 7) | (op == 10);
+        let holds = s.held == a;
+        let n = line::choose((op == 6) & passes_end(s.clock, self.value), 13, 0);
+        let n = line::choose((op == 10) & (self.b == 0) & !(s.waiter == 0), 12, n);
+        let n = line::choose(takes & (1 <= s.holders), 11, n);
+        let n = line::choose(takes & (s.ceiling < s.base), 10, n);
+        let outside = ((op == 8) | (op == 9)) & !(holds & (s.way == 1));
+        let n = line::choose(outside | (op == 11) & !(holds & (s.way == 2)), 9, n);
+        let n = line::choose(((op == 4) | takes) & !(s.held == 0), 8, n);
+        let n = line::choose(((op == 4) | uses) & (s.runner == 0), 7, n);
+        let n = line::choose(uses & (s.ceiling == 0), 6, n);
+        let taken = (op == 1) & ((a == 0) | !(s.named == 0));
+        let n = line::choose(taken | (op == 2) & !(s.ceiling == 0), 5, n);
+        let n = line::choose((1 <= op) & (op <= 3) & s.started, 3, n);
+        line::choose((4 <= op) & (op <= 11) & !s.started, 2, n)
+    }
+
+    pub fn refused(self, s: Case) -> u8
+        ensures { λ r. ⌜ r ≡ refusedOf (said self) s ⌝ }
+    {
+        let n = self.refused_formed(s);
+        line::choose(!self.formed(), 4, n)
+    }
+}
+
+// The clock would pass 2^64-1.
+fn passes_end(clock: u64, ticks: u64) -> bool
+    ensures { λ r. ⌜ r ≡ not (ltb (clock + ticks) (2 ^ 64)) ⌝ }
+{
+    18446744073709551615 - clock < ticks
+}
+
+impl Kernel {
+    // The number of refusal of a command in a sound state.
+    pub fn refusal(self, c: Command) -> u8
+        ensures { λ r. ⌜ r ≡ refusal-on self (said c) ⌝ }
+    {
+        let base = self.base;
+        let held = self.held;
+        let way = self.way;
+        let ceiling = self.ceiling;
+        let waiter = self.waiter;
+        let r = TaskID(self.ready[0]);
+        let o = POId(c.a);
+        let s = Case {
+            started: self.started,
+            clock: self.clock,
+            runner: r.0,
+            base: line::of_task(base, r),
+            held: line::of_task(held, r),
+            way: line::of_task(way, r),
+            named: line::of_task(base, TaskID(c.a)),
+            ceiling: line::of_object(ceiling, o),
+            waiter: line::of_object(waiter, o),
+            holders: line::holders(held, o),
+        };
+        c.refused(s)
+    }
+}

@@ -1,0 +1,298 @@
+// What each command does to the tables when it is accepted, and its answer.
+ghost use mathlib.Core.Path.{_≡_};
+ghost use Rattle.kernel.specs.Public.{said};
+ghost use Rattle.kernel.specs.Step as step;
+use crate::Kernel;
+use crate::Stepped;
+use crate::command::Answer;
+use crate::command::Command;
+use line::POId;
+use line::TaskID;
+
+// The clock, some ticks later: as it was, where it would pass its end.
+fn later(clock: u64, ticks: u64) -> u64
+    ensures { λ r. ⌜ r ≡ step.grown clock ticks ⌝ }
+{
+    if ticks <= 18446744073709551615 - clock {
+        clock + ticks
+    } else {
+        clock
+    }
+}
+
+// The answer of an accepted command: the running task is the front of the ready line, 0 before Start.
+fn accepted(started: bool, front: u8, released: u8) -> Answer
+    ensures { λ r. ⌜ r ≡ step.accepted started front released ⌝ }
+{
+    Answer {
+        code: 0,
+        running: TaskID(line::choose(started, front, 0)),
+        released: TaskID(released),
+    }
+}
+
+impl Kernel {
+    // 1: created, placed at the tail of its base
+    fn created(self, t: TaskID, p: u8) -> Stepped
+        ensures { λ r. ⌜ r ≡ step.createdOf self (t .0) p ⌝ }
+    {
+        let old = self.base;
+        let line = self.ready;
+        let ceiling = self.ceiling;
+        let held = self.held;
+        let base = line::with_task(old, t, p);
+        let ready = line::at_level(line, base, ceiling, held, p, t);
+        let mut next = self;
+        next.base = base;
+        next.ready = ready;
+        Stepped {
+            next,
+            answer: accepted(self.started, ready[0], 0),
+        }
+    }
+
+    // 2: declared
+    fn declared(self, o: POId, p: u8) -> Stepped
+        ensures { λ r. ⌜ r ≡ step.declaredOf self (o .0) p ⌝ }
+    {
+        let old = self.ceiling;
+        let ceiling = line::with_object(old, o, p);
+        let mut next = self;
+        next.ceiling = ceiling;
+        Stepped {
+            next,
+            answer: accepted(self.started, self.ready[0], 0),
+        }
+    }
+
+    // 3: the front runs
+    fn begun(self) -> Stepped
+        ensures { λ r. ⌜ r ≡ step.begunOf self ⌝ }
+    {
+        let mut next = self;
+        next.started = true;
+        Stepped {
+            next,
+            answer: accepted(true, self.ready[0], 0),
+        }
+    }
+
+    // 4, with a time that has passed: the runner goes to the tail of its base
+    fn yielded(self) -> Stepped
+        ensures { λ r. ⌜ r ≡ step.yieldedOf self ⌝ }
+    {
+        let line = self.ready;
+        let base = self.base;
+        let ceiling = self.ceiling;
+        let held = self.held;
+        let r = TaskID(line[0]);
+        let p = line::of_task(base, r);
+        let rest = line::without_front(line);
+        let ready = line::at_level(rest, base, ceiling, held, p, r);
+        let mut next = self;
+        next.ready = ready;
+        Stepped {
+            next,
+            answer: accepted(self.started, ready[0], 0),
+        }
+    }
+
+    // 4, with a time above the clock: into the delay line
+    fn slept(self, v: u64) -> Stepped
+        ensures { λ r. ⌜ r ≡ step.sleptOf self v ⌝ }
+    {
+        let line = self.ready;
+        let old = self.delayed;
+        let r = TaskID(line[0]);
+        let ready = line::without_front(line);
+        let delayed = line::at_time(old, &self.until, v, r);
+        let mut next = self;
+        next.ready = ready;
+        next.delayed = delayed;
+        line::set_time(&mut next.until, r, v);
+        Stepped {
+            next,
+            answer: accepted(self.started, ready[0], 0),
+        }
+    }
+
+    // 5, where the first delay entry is due: it goes to the tail of its base
+    fn woken(self, t: TaskID) -> Stepped
+        ensures { λ r. ⌜ r ≡ step.wokenOf self (t .0) ⌝ }
+    {
+        let line = self.ready;
+        let old = self.delayed;
+        let base = self.base;
+        let ceiling = self.ceiling;
+        let held = self.held;
+        let p = line::of_task(base, t);
+        let ready = line::at_level(line, base, ceiling, held, p, t);
+        let delayed = line::without_front(old);
+        let mut next = self;
+        next.ready = ready;
+        next.delayed = delayed;
+        line::set_time(&mut next.until, t, 0);
+        Stepped {
+            next,
+            answer: accepted(self.started, ready[0], t.0),
+        }
+    }
+
+    // 6: the clock grows
+    fn advanced(self, ticks: u64) -> Stepped
+        ensures { λ r. ⌜ r ≡ step.advancedOf self ticks ⌝ }
+    {
+        let mut next = self;
+        next.clock = later(self.clock, ticks);
+        Stepped {
+            next,
+            answer: accepted(self.started, self.ready[0], 0),
+        }
+    }
+
+    // 7, and 10 with the barrier open: the runner holds the object, in that way
+    fn held_by_runner(self, o: POId, w: u8) -> Stepped
+        ensures { λ r. ⌜ r ≡ step.heldOf self (o .0) w ⌝ }
+    {
+        let r = TaskID(self.ready[0]);
+        let hands = self.held;
+        let ways = self.way;
+        let held = line::with_task(hands, r, o.0);
+        let way = line::with_task(ways, r, w);
+        let mut next = self;
+        next.held = held;
+        next.way = way;
+        Stepped {
+            next,
+            answer: accepted(self.started, self.ready[0], 0),
+        }
+    }
+
+    // 8, where t waits and the barrier is open: it goes to the tail of its base
+    fn served(self, o: POId, t: TaskID) -> Kernel
+        ensures { λ r. ⌜ r ≡ step.servedOf self (o .0) (t .0) ⌝ }
+    {
+        let line = self.ready;
+        let base = self.base;
+        let ceiling = self.ceiling;
+        let held = self.held;
+        let waits = self.waiter;
+        let p = line::of_task(base, t);
+        let ready = line::at_level(line, base, ceiling, held, p, t);
+        let waiter = line::with_object(waits, o, 0);
+        let mut next = self;
+        next.ready = ready;
+        next.waiter = waiter;
+        next
+    }
+
+    // 8, 9, 11: the runner holds nothing and goes to the head of its base
+    fn closed(self, released: u8) -> Stepped
+        ensures { λ r. ⌜ r ≡ step.closedOf self released ⌝ }
+    {
+        let line = self.ready;
+        let base = self.base;
+        let ceiling = self.ceiling;
+        let hands = self.held;
+        let ways = self.way;
+        let r = TaskID(line[0]);
+        let held = line::with_task(hands, r, 0);
+        let way = line::with_task(ways, r, 0);
+        let p = line::one_more(line::of_task(base, r));
+        let rest = line::without_front(line);
+        let ready = line::at_level(rest, base, ceiling, held, p, r);
+        let mut next = self;
+        next.ready = ready;
+        next.held = held;
+        next.way = way;
+        Stepped {
+            next,
+            answer: accepted(self.started, ready[0], released),
+        }
+    }
+
+    // 10 with the barrier shut: the runner leaves the line and waits on the object
+    fn awaiting(self, o: POId) -> Stepped
+        ensures { λ r. ⌜ r ≡ step.awaitingOf self (o .0) ⌝ }
+    {
+        let line = self.ready;
+        let waits = self.waiter;
+        let waiter = line::with_object(waits, o, line[0]);
+        let ready = line::without_front(line);
+        let mut next = self;
+        next.ready = ready;
+        next.waiter = waiter;
+        Stepped {
+            next,
+            answer: accepted(self.started, ready[0], 0),
+        }
+    }
+
+    // The task to wake: the first delay entry, if its time is at most the clock; 0 for nobody.
+    fn first_due(self) -> u8
+        ensures { λ r. ⌜ r ≡ step.dueOf self ⌝ }
+    {
+        let t = self.delayed[0];
+        line::choose(line::time_of(&self.until, TaskID(t)) <= self.clock, t, 0)
+    }
+
+    // The task to serve: the one that waits on the object, if the barrier is open; 0 for nobody.
+    fn first_waiting(self, o: POId, barrier: u8) -> u8
+        ensures { λ r. ⌜ r ≡ step.waitingOf self (o .0) barrier ⌝ }
+    {
+        let waiter = self.waiter;
+        line::choose(barrier == 1, line::of_object(waiter, o), 0)
+    }
+
+    // 5: the first delay entry, if it is due; otherwise nothing changes
+    fn waking(self) -> Stepped
+        ensures { λ r. ⌜ r ≡ step.wakeOf self ⌝ }
+    {
+        let t = self.first_due();
+        if t == 0 {
+            self.advanced(0)
+        } else {
+            self.woken(TaskID(t))
+        }
+    }
+
+    // 8: whoever waits, if the barrier is open; then the runner
+    fn closing(self, o: POId, barrier: u8) -> Stepped
+        ensures { λ r. ⌜ r ≡ step.closepOf self (o .0) barrier ⌝ }
+    {
+        let t = self.first_waiting(o, barrier);
+        if t == 0 {
+            self.closed(0)
+        } else {
+            self.served(o, TaskID(t)).closed(t)
+        }
+    }
+
+    // An accepted command carried out.
+    pub fn carried(self, c: Command) -> Stepped
+        ensures { λ r. ⌜ r ≡ step.carriedOf self (said c) ⌝ }
+    {
+        let op = c.op;
+        match op {
+            1 => self.created(TaskID(c.a), c.b),
+            2 => self.declared(POId(c.a), c.b),
+            3 => self.begun(),
+            4 => if self.clock < c.value {
+                self.slept(c.value)
+            } else {
+                self.yielded()
+            },
+            5 => self.waking(),
+            7 => self.held_by_runner(POId(c.a), 1),
+            8 => self.closing(POId(c.a), c.b),
+            9 => self.closed(0),
+            10 => if c.b == 1 {
+                self.held_by_runner(POId(c.a), 2)
+            } else {
+                self.awaiting(POId(c.a))
+            },
+            11 => self.closed(0),
+            _ => self.advanced(c.value),
+        }
+    }
+}

@@ -1,0 +1,154 @@
+// The test of a saved state: document 01's conditions, and that every unused cell is 0.
+ghost use mathlib.Core.Path.{_≡_};
+ghost use lib.ListN.{replicate};
+ghost use Rattle.line.specs.Tables.{zeros};
+ghost use Rattle.kernel.specs.Public.{isSound};
+ghost use Rattle.kernel.specs.Test as test;
+use crate::Kernel;
+use line::POId;
+use line::TaskID;
+
+// Where a task stands: nowhere is 0, in both or twice is 9.
+const READY: u8 = 1;
+
+const DELAYED: u8 = 2;
+
+const WAITING: u8 = 3;
+
+// A task's base is in range, it stands once where it is created and nowhere else, and it holds an object in one of two ways, if it is ready.
+fn task_fits(base: u8, place: u8, held: u8, way: u8) -> bool
+    ensures { λ r. ⌜ r ≡ test.taskFits base place held way ⌝ }
+{
+    let stands = (base == 0) & (place == 0) | !(base == 0) & !(place == 0);
+    let hands = (held == 0) & (way == 0) | !(held == 0) & !(way == 0) & (place == READY);
+    (base <= 15) & (place <= WAITING) & (way <= 2) & stands & hands
+}
+
+// No exit before the end: so the compiler tests sixteen tasks at a time.
+fn tasks_fit(base: [u8; 32], place: [u8; 32], held: [u8; 32], way: [u8; 32]) -> bool
+    ensures { λ r. ⌜ r ≡ test.tasksFit base place held way ⌝ }
+{
+    let mut fit = true;
+    let mut t = 0;
+    while t < 32 {
+        fit = task_fits(base[t], place[t], held[t], way[t]) & fit;
+        t += 1;
+    }
+    fit
+}
+
+// Only a delayed task has a time.
+fn times_fit(until: &[u64; 32], place: [u8; 32]) -> bool
+    ensures { λ r. ⌜ r ≡ test.timesFit (now (until .entry)) place ⌝ }
+{
+    let mut fit = true;
+    let mut t = 0;
+    while t < 32 {
+        fit = ((until[t] == 0) | (place[t] == DELAYED)) & fit;
+        t += 1;
+    }
+    fit
+}
+
+// A task of that base may hold or wait on an object of that ceiling.
+fn admits(ceiling: u8, base: u8) -> bool
+    ensures { λ r. ⌜ r ≡ test.admits ceiling base ⌝ }
+{
+    !(ceiling == 0) & (base <= ceiling)
+}
+
+// Each holder may hold its object, and no other holds it.
+fn holders_fit(base: [u8; 32], held: [u8; 32], ceiling: [u8; 8]) -> bool
+    ensures { λ r. ⌜ r ≡ test.holdersFit ceiling (replicate 8 0) base held ⌝ }
+{
+    let mut taken = [0u8; 8];
+    let mut t = 0;
+    while t < 32 {
+        let o = held[t];
+        if o == 0 {
+            t += 1;
+            continue;
+        }
+        if 8 <= o {
+            return false;
+        }
+        let j = o as usize;
+        let free = taken[j] == 0;
+        if !(free & admits(ceiling[j], base[t])) {
+            return false;
+        }
+        taken[j] = 1;
+        t += 1;
+    }
+    true
+}
+
+// An object with its ceiling, who waits on it, and that task's base.
+fn object_fits(o: u8, ceiling: u8, w: u8, base: u8) -> bool
+    ensures { λ r. ⌜ r ≡ test.objectFits o ceiling w base ⌝ }
+{
+    let null = !(o == 0) | (ceiling == 0);
+    null & (ceiling <= 15) & ((w == 0) | (w < 32) & admits(ceiling, base))
+}
+
+fn objects_fit(base: [u8; 32], ceiling: [u8; 8], waiter: [u8; 8]) -> bool
+    ensures { λ r. ⌜ r ≡ test.objectsFit base ceiling waiter ⌝ }
+{
+    let mut fit = true;
+    let mut o = 0u8;
+    while o < 8 {
+        let i = o as usize;
+        let w = waiter[i];
+        fit = object_fits(o, ceiling[i], w, line::of_task(base, TaskID(w))) & fit;
+        o += 1;
+    }
+    fit
+}
+
+fn nobody_waits(waiter: [u8; 8]) -> bool
+    ensures { λ r. ⌜ r ≡ zeros waiter ⌝ }
+{
+    let mut free = true;
+    let mut i = 0;
+    while i < 8 {
+        free = free & (waiter[i] == 0);
+        i += 1;
+    }
+    free
+}
+
+// Before Start the clock is 0 and nothing is delayed, waiting or held.
+fn is_calm(started: bool, clock: u64, first: u8, waiter: [u8; 8], held: [u8; 32]) -> bool
+    ensures { λ r. ⌜ r ≡ test.isCalm started clock first waiter held ⌝ }
+{
+    if started {
+        return true;
+    }
+    (clock == 0) & (first == 0) & nobody_waits(waiter) & line::is_free(held)
+}
+
+impl Kernel {
+    pub fn sound(self) -> bool
+        ensures { λ r. ⌜ r ≡ isSound self ⌝ }
+    {
+        let base = self.base;
+        let ready = self.ready;
+        let delayed = self.delayed;
+        let held = self.held;
+        let way = self.way;
+        let ceiling = self.ceiling;
+        let waiter = self.waiter;
+        let ended = line::is_ended(ready) & line::is_ended(delayed);
+        let falling = line::is_falling(ready, base, ceiling, held);
+        let rising = line::is_rising(delayed, &self.until);
+        let place = line::mark_line(ready, READY, [0; 32]);
+        let place = line::mark_line(delayed, DELAYED, place);
+        let place = line::mark_waiting(waiter, WAITING, place);
+        let tasks = tasks_fit(base, place, held, way);
+        let times = times_fit(&self.until, place);
+        let holders = holders_fit(base, held, ceiling);
+        let objects = objects_fit(base, ceiling, waiter);
+        let calm = is_calm(self.started, self.clock, delayed[0], waiter, held);
+        ended & falling & rising & tasks & times & holders & objects & calm
+    }
+}

@@ -1,0 +1,160 @@
+-- Laws of the definitions on tables: what one turn of a loop over a table does to each, by the entry that the turn looks at.
+-- A loop's invariant says that the whole is what was gathered so far with the same of the rest, `drop i l`. Assumes nothing.
+use Prim.Native.Nat.{ℕ, suc, _+_, _≤_, _<_}
+use native.Mathlib.Numerals.{add-one}
+use native.Mathlib.Nat.{add-comm}
+use native.Mathlib.Omega.{arith}
+use mathlib.Core.Path.{_≡_, refl, sym, ap, _∙_}
+use mathlib.Core.Bool.{Bool, true, false, cond, not, _&&_}
+use mathlib.Core.List.{List, [], _∷_, _++_, append-assoc, append-nil}
+use lib.Dec.{eqb}
+use lib.ListN.{length, take, drop, set, drop-of-length-le, length-drop, List·getD-eq-default}
+use lib.Seq.{drop-cons, take-suc-set, take-all, take-suc, set-out, set-split, getD-drop}
+use borrow.Author.Tests.{eq-eqb, ne-eqb, le-leb, lt-leb}
+use Rattle.rules.specs.Line.{at, count, one-if, every, neighbours}
+use Rattle.line.specs.Tables.{shift, place, lead, insert, pop, zeros, ordered, met, marks}
+
+-- a lookup and a store past the end
+pub read-out : (l : List ℕ) (n t : ℕ) → length l ≡ n → n ≤ t → 0 ≡ at l t
+read-out l n t e h = sym (List·getD-eq-default l 0 (omega arith))
+
+pub store-out : (l : List ℕ) (n t v : ℕ) → length l ≡ n → n ≤ t → l ≡ set l t v
+store-out l n t v e h = sym (set-out l t v (omega arith))
+
+-- a loop that counts up to the first stop
+module _ (stop : ℕ → Bool) (l : List ℕ) (i : ℕ) where
+  pub lead-step : i < length l → stop (at l i) ≡ false → i + lead stop (drop i l) ≡ (i + 1) + lead stop (drop (i + 1) l)
+  unfolding lead
+  lead-step h e = rw (drop-cons l i 0 h, e, add-one) (omega arith)
+
+  pub lead-stop : i < length l → stop (at l i) ≡ true → i + lead stop (drop i l) ≡ i
+  unfolding lead
+  lead-stop h e = rw (drop-cons l i 0 h, e) (omega arith)
+
+  pub lead-done : length l ≤ i → i + lead stop (drop i l) ≡ i
+  unfolding lead
+  lead-done h = rw (drop-of-length-le l h) (omega arith)
+
+-- a loop that moves the entries back
+pub shift-step : (l out : List ℕ) (i x : ℕ) → i < length l → i < length out
+    → take i out ++ shift x (drop i l) ≡ take (i + 1) (set out i x) ++ shift (at l i) (drop (i + 1) l)
+unfolding shift
+shift-step l out i x h k = rw (add-one, drop-cons l i 0 h, take-suc-set out i x k, append-assoc)
+
+pub shift-done : (l out : List ℕ) (i x : ℕ) → length l ≤ i → length out ≤ i → take i out ++ shift x (drop i l) ≡ out
+unfolding shift
+shift-done l out i x h k = rw (drop-of-length-le l h, take-all i out k, append-nil)
+
+-- placing is inserting where the test stops
+place-by : (stop : ℕ → Bool) (t x : ℕ) (l : List ℕ) (b : Bool) → place stop t l ≡ insert (lead stop l) t l
+    → cond b (t ∷ shift x l) (x ∷ place stop t l) ≡ insert (cond b 0 (suc (lead stop l))) t (x ∷ l)
+unfolding insert shift
+place-by stop t x l true e = refl
+place-by stop t x l false e = ap (λ (m : List ℕ). x ∷ m) e
+
+pub place-lead : (stop : ℕ → Bool) (t : ℕ) (l : List ℕ) → place stop t l ≡ insert (lead stop l) t l
+unfolding place lead insert shift
+place-lead stop t [] = refl
+place-lead stop t (x ∷ l) = place-by stop t x l (stop x) (place-lead stop t l)
+
+-- a loop that moves the entries forward
+pub pop-step : (l out : List ℕ) (i : ℕ) → i + 1 < length l → i < length out → take i out ≡ take i (drop 1 l)
+    → take (i + 1) (set out i (at l (i + 1))) ≡ take (i + 1) (drop 1 l)
+pop-step l out i h k e =
+    let in-rest : i < length (drop 1 l) = simp length-drop (omega arith) in
+    let read : at (drop 1 l) i ≡ at l (i + 1) = getD-drop 1 l i 0 ∙ ap (λ (m : ℕ). at l m) (add-comm 1 i) in
+    rw (← read, add-one, take-suc-set out i (at (drop 1 l) i) k, take-suc (drop 1 l) i 0 in-rest, e)
+
+pop-all : (l : List ℕ) → 0 < length l → pop l ≡ drop 1 l ++ (0 ∷ [])
+unfolding pop
+pop-all [] h = let z : ⊥ = omega arith in absurd z
+pop-all (x ∷ l) h = refl
+
+pub pop-done : (l out : List ℕ) → length l ≡ 32 → length out ≡ 32 → take 31 out ≡ take 31 (drop 1 l) → set out 31 0 ≡ pop l
+pop-done l out n m e =
+    let some : 0 < length l = omega arith in
+    let fits : 31 < length out = omega arith in
+    let past : length out ≤ 32 = omega arith in
+    let rest : length (drop 1 l) ≤ 31 = simp length-drop (omega arith) in
+    set-split out 31 0 fits ∙ rw (drop-of-length-le out past, e, take-all 31 (drop 1 l) rest, pop-all l some)
+
+-- a loop that counts
+module _ (t : ℕ) (l : List ℕ) (i n : ℕ) (h : i < length l) (inv : count t l ≡ n + count t (drop i l)) where
+  count-turn : count t l ≡ n + (one-if (eqb t (at l i)) + count t (drop (i + 1) l))
+  count-turn = inv ∙ rw (add-one, drop-cons l i 0 h)
+
+  pub count-same : t ≡ at l i → count t l ≡ (n + 1) + count t (drop (i + 1) l)
+  count-same e = count-turn ∙ rw (eq-eqb t (at l i) e) (omega arith)
+
+  pub count-other : (t ≡ at l i → ⊥) → count t l ≡ n + count t (drop (i + 1) l)
+  count-other e = count-turn ∙ rw (ne-eqb t (at l i) e) (omega arith)
+
+pub count-done : (t : ℕ) (l : List ℕ) (i n : ℕ) → length l ≤ i → count t l ≡ n + count t (drop i l) → n ≡ count t l
+count-done t l i n h inv = sym (inv ∙ rw (drop-of-length-le l h) (omega arith))
+
+and-assoc : (a b c : Bool) → a && b && c ≡ a && (b && c)
+and-assoc true b c = refl
+and-assoc false b c = refl
+
+and-true : (a : Bool) → a && true ≡ a
+and-true true = refl
+and-true false = refl
+
+-- a loop that gathers a test of each entry, or of each two neighbours
+module _ (f : ℕ → Bool) (l : List ℕ) (i : ℕ) (b : Bool) where
+  pub every-step : i < length l → b && every f (drop i l) ≡ b && f (at l i) && every f (drop (i + 1) l)
+  every-step h = rw (add-one, drop-cons l i 0 h) (sym (and-assoc b (f (at l i)) (every f (drop (suc i) l))))
+
+  pub every-done : length l ≤ i → b && every f (drop i l) ≡ b
+  every-done h = rw (drop-of-length-le l h) (and-true b)
+
+module _ (f : ℕ → ℕ → Bool) (l : List ℕ) (i : ℕ) (b : Bool) where
+  pub pairs-step : i + 1 < length l → b && neighbours f (drop i l) ≡ b && f (at l i) (at l (i + 1)) && neighbours f (drop (i + 1) l)
+  pairs-step h =
+      let near : i < length l = omega arith in
+      let next : suc i < length l = omega arith in
+      rw (add-one, drop-cons l i 0 near, drop-cons l (suc i) 0 next) (sym (and-assoc b (f (at l i) (at l (suc i))) (neighbours f (at l (suc i) ∷ drop (suc (suc i)) l))))
+
+  pub pairs-done : i + 1 ≡ length l → b && neighbours f (drop i l) ≡ b
+  pairs-done h =
+      let near : i < length l = omega arith in
+      let past : length l ≤ suc i = omega arith in
+      rw (drop-cons l i 0 near, drop-of-length-le l past) (and-true b)
+
+-- a loop that tests an order
+module _ (follows : ℕ → ℕ → Bool) (key : ℕ → ℕ) (last : ℕ) (l : List ℕ) (i : ℕ) where
+  pub ordered-free : i < length l → at l i ≡ 0 → ordered follows key last (drop i l) ≡ true
+  unfolding ordered
+  ordered-free h e = rw (drop-cons l i 0 h, eq-eqb (at l i) 0 e)
+
+  pub ordered-out : i < length l → (at l i ≡ 0 → ⊥) → 32 ≤ at l i → ordered follows key last (drop i l) ≡ false
+  unfolding ordered
+  ordered-out h n k = rw (drop-cons l i 0 h, ne-eqb (at l i) 0 n, le-leb 32 (at l i) k)
+
+  module _ (h : i < length l) (n : at l i ≡ 0 → ⊥) (k : at l i < 32) where
+    pub ordered-stop : follows last (key (at l i)) ≡ false → ordered follows key last (drop i l) ≡ false
+    unfolding ordered
+    ordered-stop e = rw (drop-cons l i 0 h, ne-eqb (at l i) 0 n, lt-leb 32 (at l i) k, e)
+
+    pub ordered-step : follows last (key (at l i)) ≡ true → ordered follows key last (drop i l) ≡ ordered follows key (key (at l i)) (drop (i + 1) l)
+    unfolding ordered
+    ordered-step e = rw (add-one, drop-cons l i 0 h, ne-eqb (at l i) 0 n, lt-leb 32 (at l i) k, e)
+
+  pub ordered-done : length l ≤ i → ordered follows key last (drop i l) ≡ true
+  unfolding ordered
+  ordered-done h = rw (drop-of-length-le l h)
+
+-- a loop that marks
+module _ (stop : ℕ → Bool) (mark : ℕ) (l seen : List ℕ) (i : ℕ) where
+  pub marks-stop : i < length l → stop (at l i) ≡ true → marks stop mark (drop i l) seen ≡ seen
+  unfolding marks
+  marks-stop h e = rw (drop-cons l i 0 h, e)
+
+  pub marks-step : i < length l → stop (at l i) ≡ false
+      → marks stop mark (drop i l) seen ≡ marks stop mark (drop (i + 1) l) (set seen (at l i) (cond (eqb (at l i) 0) 0 (met mark (at seen (at l i)))))
+  unfolding marks
+  marks-step h e = rw (add-one, drop-cons l i 0 h, e)
+
+  pub marks-done : length l ≤ i → marks stop mark (drop i l) seen ≡ seen
+  unfolding marks
+  marks-done h = rw (drop-of-length-le l h)

@@ -1,0 +1,23 @@
+-- `line::with_task` meets its contract: in the table the cell is stored, past its end nothing is. Assumes nothing.
+use Prim.Native.Nat.{_-_}
+use mathlib.Core.Path.{_≡_}
+use lib.ListN.{length}
+use Rattle.line.proofs.Laws.{store-out}
+use borrow.Author.Needs.{needs}
+use Rattle.line.proofs.with_task.Statement.{statement}
+use Rattle.line.proofs.with_task.Tie as tie
+
+cast-i : tie.Need-cast-i
+cast-i c = search needs
+
+array-write-out : tie.Need-array-write-out
+array-write-out c = search needs
+
+returns : tie.Need-returns
+returns c = search needs
+
+returns-2 : tie.Need-returns-2
+returns-2 c = let n : length (c .before .args .table) ≡ 32 = search needs in store-out (c .before .args .table) 32 (c .before .args .t .0) (c .before .args .v) n (c .if1 .left)
+
+pub with-task-spec : {M : Type 1} → statement M
+with-task-spec = tie.close (tie.spec cast-i array-write-out returns returns-2)

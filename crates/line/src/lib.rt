@@ -1,0 +1,349 @@
+// Tables of 32 tasks and 8 objects, and lines of tasks in them: look up, store, place, take the front off, count, and the tests of order.
+// Each function is total: a lookup past the end is 0, a store past the end does nothing. No table goes into a call inside a loop over 32.
+ghost use mathlib.Core.Path.{_≡_};
+ghost use mathlib.Core.Bool.{cond};
+ghost use lib.Dec.{eqb, leb};
+ghost use lib.ListN.{set};
+ghost use Rattle.rules.specs.Line.{at, count};
+ghost use Rattle.line.specs.Tables.{lead, insert, place, pop, lower, later, ended, zeros, falls, rises, no-task, more, marks, time-in, with-time};
+
+// A task's number, 0 for idle.
+pub struct TaskID(pub u8);
+
+// A protected object's number, 0 for the null object.
+pub struct POId(pub u8);
+
+// ---- look up and store
+
+pub fn of_task(table: [u8; 32], t: TaskID) -> u8
+    ensures { λ r. ⌜ r ≡ at table (t .0) ⌝ }
+{
+    let n = t.0;
+    if n < 32 {
+        let i = n as usize;
+        table[i]
+    } else {
+        0
+    }
+}
+
+// The times are 256 bytes, so they are lent.
+pub fn time_of(until: &[u64; 32], t: TaskID) -> u64
+    ensures { λ r. ⌜ r ≡ time-in (now (until .entry)) (t .0) ⌝ }
+{
+    let n = t.0;
+    if n < 32 {
+        let i = n as usize;
+        until[i]
+    } else {
+        0
+    }
+}
+
+pub fn of_object(table: [u8; 8], o: POId) -> u8
+    ensures { λ r. ⌜ r ≡ at table (o .0) ⌝ }
+{
+    let n = o.0;
+    if n < 8 {
+        let i = n as usize;
+        table[i]
+    } else {
+        0
+    }
+}
+
+pub fn with_task(table: [u8; 32], t: TaskID, v: u8) -> [u8; 32]
+    ensures { λ r. ⌜ r ≡ set table (t .0) v ⌝ }
+{
+    let mut out = table;
+    let n = t.0;
+    if n < 32 {
+        let i = n as usize;
+        out[i] = v;
+    }
+    out
+}
+
+pub fn set_time(until: &mut [u64; 32], t: TaskID, v: u64)
+    ensures { λ _. ⌜ now (until .exit) ≡ with-time (now (until .entry)) (t .0) v ⌝ }
+{
+    let n = t.0;
+    if n < 32 {
+        let i = n as usize;
+        until[i] = v;
+    }
+}
+
+pub fn with_object(table: [u8; 8], o: POId, v: u8) -> [u8; 8]
+    ensures { λ r. ⌜ r ≡ set table (o .0) v ⌝ }
+{
+    let mut out = table;
+    let n = o.0;
+    if n < 8 {
+        let i = n as usize;
+        out[i] = v;
+    }
+    out
+}
+
+// The one number or the other.
+pub fn choose(test: bool, a: u8, b: u8) -> u8
+    ensures { λ r. ⌜ r ≡ cond test a b ⌝ }
+{
+    if test { a } else { b }
+}
+
+// ---- place, and take the front off
+
+// How many stand before the first with an active priority below p.
+pub fn lead_level(line: [u8; 32], base: [u8; 32], ceiling: [u8; 8], held: [u8; 32], p: u8) -> usize
+    ensures { λ r. ⌜ r ≡ lead (lower base ceiling held p) line ⌝ }
+{
+    let mut i = 0;
+    while i < 32 {
+        let x = line[i];
+        if 32 <= x {
+            return i;
+        }
+        let j = x as usize;
+        let o = held[j];
+        let top = of_object(ceiling, POId(o));
+        if choose(o == 0, base[j], top) < p {
+            return i;
+        }
+        i += 1;
+    }
+    i
+}
+
+// How many stand before the first with a time after v.
+pub fn lead_time(line: [u8; 32], until: &[u64; 32], v: u64) -> usize
+    ensures { λ r. ⌜ r ≡ lead (later (now (until .entry)) v) line ⌝ }
+{
+    let mut i = 0;
+    while i < 32 {
+        let x = line[i];
+        if x == 0 {
+            return i;
+        }
+        if 32 <= x {
+            return i;
+        }
+        let j = x as usize;
+        if v < until[j] {
+            return i;
+        }
+        i += 1;
+    }
+    i
+}
+
+// How many stand before t.
+pub fn lead_task(line: [u8; 32], t: TaskID) -> u8
+    ensures { λ r. ⌜ r ≡ lead (eqb (t .0)) line ⌝ }
+{
+    let mut n = 0u8;
+    while n < 32 {
+        let i = n as usize;
+        if t.0 == line[i] {
+            return n;
+        }
+        n += 1;
+    }
+    n
+}
+
+pub fn insert_at(line: [u8; 32], at: usize, t: TaskID) -> [u8; 32]
+    ensures { λ r. ⌜ r ≡ insert at (t .0) line ⌝ }
+{
+    let mut out = line;
+    let mut carry = t.0;
+    let mut i = at;
+    while i < 32 {
+        let x = line[i];
+        out[i] = carry;
+        carry = x;
+        i += 1;
+    }
+    out
+}
+
+// t at the tail of p. The head of p is the tail of p + 1.
+pub fn at_level(
+    line: [u8; 32],
+    base: [u8; 32],
+    ceiling: [u8; 8],
+    held: [u8; 32],
+    p: u8,
+    t: TaskID,
+) -> [u8; 32]
+    ensures { λ r. ⌜ r ≡ place (lower base ceiling held p) (t .0) line ⌝ }
+{
+    let i = lead_level(line, base, ceiling, held, p);
+    insert_at(line, i, t)
+}
+
+// t by its time, behind those of an equal one.
+pub fn at_time(line: [u8; 32], until: &[u64; 32], v: u64, t: TaskID) -> [u8; 32]
+    ensures { λ r. ⌜ r ≡ place (later (now (until .entry)) v) (t .0) line ⌝ }
+{
+    let i = lead_time(line, until, v);
+    insert_at(line, i, t)
+}
+
+pub fn without_front(line: [u8; 32]) -> [u8; 32]
+    ensures { λ r. ⌜ r ≡ pop line ⌝ }
+{
+    let mut out = line;
+    let mut i = 0;
+    while i < 31 {
+        out[i] = line[i + 1];
+        i += 1;
+    }
+    out[31] = 0;
+    out
+}
+
+// ---- count
+
+// How many tasks hold the object.
+pub fn holders(held: [u8; 32], o: POId) -> u8
+    ensures { λ r. ⌜ r ≡ count (o .0) held ⌝ }
+{
+    let mut n = 0u8;
+    let mut i = 0;
+    while i < 32 {
+        if o.0 == held[i] {
+            n += 1;
+        }
+        i += 1;
+    }
+    n
+}
+
+// One more, up to what a byte holds.
+pub fn one_more(n: u8) -> u8
+    ensures { λ r. ⌜ r ≡ more n ⌝ }
+{
+    if n < 255 { n + 1 } else { n }
+}
+
+// Where each task stands: the mark of the line or of the objects, on top of what was marked before; 9 for a task that stands twice.
+pub fn mark_line(line: [u8; 32], mark: u8, seen: [u8; 32]) -> [u8; 32]
+    ensures { λ r. ⌜ r ≡ marks no-task mark line seen ⌝ }
+{
+    let mut out = seen;
+    let mut i = 0;
+    while i < 32 {
+        let x = line[i];
+        if x == 0 {
+            return out;
+        }
+        if 32 <= x {
+            return out;
+        }
+        let j = x as usize;
+        let n = choose(out[j] == 0, mark, 9);
+        out[j] = n;
+        i += 1;
+    }
+    out
+}
+
+pub fn mark_waiting(waiter: [u8; 8], mark: u8, seen: [u8; 32]) -> [u8; 32]
+    ensures { λ r. ⌜ r ≡ marks (leb 32) mark waiter seen ⌝ }
+{
+    let mut out = seen;
+    let mut i = 0;
+    while i < 8 {
+        let x = waiter[i];
+        if 32 <= x {
+            return out;
+        }
+        let j = x as usize;
+        let n = choose(x == 0, 0, choose(out[j] == 0, mark, 9));
+        out[j] = n;
+        i += 1;
+    }
+    out
+}
+
+// ---- order
+
+// Behind a free place all are free. No exit before the end: so the compiler tests sixteen places at a time.
+pub fn is_ended(line: [u8; 32]) -> bool
+    ensures { λ r. ⌜ r ≡ ended line ⌝ }
+{
+    let mut ends = true;
+    let mut i = 0;
+    while i < 31 {
+        ends = ends & (!(line[i] == 0) | (line[i + 1] == 0));
+        i += 1;
+    }
+    ends
+}
+
+// All places are free.
+pub fn is_free(line: [u8; 32]) -> bool
+    ensures { λ r. ⌜ r ≡ zeros line ⌝ }
+{
+    let mut free = true;
+    let mut i = 0;
+    while i < 32 {
+        free = free & (line[i] == 0);
+        i += 1;
+    }
+    free
+}
+
+// Tasks by active priority, none above 15.
+pub fn is_falling(line: [u8; 32], base: [u8; 32], ceiling: [u8; 8], held: [u8; 32]) -> bool
+    ensures { λ r. ⌜ r ≡ falls base ceiling held 15 line ⌝ }
+{
+    let mut last = 15u8;
+    let mut i = 0;
+    while i < 32 {
+        let x = line[i];
+        if x == 0 {
+            return true;
+        }
+        if 32 <= x {
+            return false;
+        }
+        let j = x as usize;
+        let o = held[j];
+        let top = of_object(ceiling, POId(o));
+        let level = choose(o == 0, base[j], top);
+        if last < level {
+            return false;
+        }
+        last = level;
+        i += 1;
+    }
+    true
+}
+
+// Tasks by time.
+pub fn is_rising(line: [u8; 32], until: &[u64; 32]) -> bool
+    ensures { λ r. ⌜ r ≡ rises (now (until .entry)) 0 line ⌝ }
+{
+    let mut last = 0u64;
+    let mut i = 0;
+    while i < 32 {
+        let x = line[i];
+        if x == 0 {
+            return true;
+        }
+        if 32 <= x {
+            return false;
+        }
+        let j = x as usize;
+        let time = until[j];
+        if time < last {
+            return false;
+        }
+        last = time;
+        i += 1;
+    }
+    true
+}

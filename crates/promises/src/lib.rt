@@ -1,0 +1,1 @@
+// No code: what three engineers were promised, as theorems over the functions that are shipped.
