@@ -1,0 +1,146 @@
+--  The kernel step of document 01, written a second time.
+--
+--  There is no ready line and no delay line in here.  Each task knows where
+--  it stands and when it came there; the front of a line is found by a
+--  search.  "Document 01" is the paper 01-scope.md; the words in quotes in
+--  the comments are its own.
+
+package Machine is
+
+   --  "The clock and delay times run over 0..2^64-1."
+   type Ticks is mod 2 ** 64;
+
+   --  "Tasks 0..31; 0 is idle".  "Objects 1..7 with ceiling 1..15; 0 is the
+   --  null object".  Two types, so that one is never taken for the other.
+   type Task_Id is range 0 .. 31;
+   type Object_Id is range 0 .. 7;
+   subtype Real_Object is Object_Id range 1 .. 7;
+   type Priority is range 0 .. 15;
+
+   Idle        : constant Task_Id := 0;
+   Null_Object : constant Object_Id := 0;
+
+   --  "Numbers of refusal and their order".  1, 15 and 16 do not occur in
+   --  the two programs.
+   subtype Code is Natural range 0 .. 18;
+   Accepted     : constant Code := 0;
+   Early        : constant Code := 2;
+   Late         : constant Code := 3;
+   Out_Of_Range : constant Code := 4;
+   Taken        : constant Code := 5;
+   Missing      : constant Code := 6;
+   Idle_Runs    : constant Code := 7;
+   Inside       : constant Code := 8;
+   Outside      : constant Code := 9;
+   Ceiling      : constant Code := 10;
+   Held         : constant Code := 11;
+   Queue        : constant Code := 12;
+   Clock_Full   : constant Code := 13;
+   Bad_Line     : constant Code := 14;
+   Bad_Seed     : constant Code := 17;
+   Bad_Profile  : constant Code := 18;
+
+   --  The ops of the table of commands.  An op is a plain number, since an
+   --  unknown one must be refused (READINGS 2).
+   Op_Create  : constant := 1;
+   Op_Object  : constant := 2;
+   Op_Start   : constant := 3;
+   Op_Delay   : constant := 4;
+   Op_Wake    : constant := 5;
+   Op_Advance : constant := 6;
+   Op_Open    : constant := 7;
+   Op_Closep  : constant := 8;
+   Op_Closef  : constant := 9;
+   Op_Entry   : constant := 10;
+   Op_Done    : constant := 11;
+
+   type Command is record
+      Op    : Natural := 0;
+      A     : Natural := 0;
+      B     : Natural := 0;
+      Value : Ticks   := 0;
+   end record;
+
+   type Answer is record
+      Number   : Code    := Accepted;
+      Running  : Task_Id := Idle;
+      Released : Task_Id := Idle;
+   end record;
+
+   --  When something happened, against other things that happened.
+   type Moment is range -2 ** 62 .. 2 ** 62;
+
+   --  "8, 9 end an open; 11 ends an entry"
+   type Way_In is (By_Open, By_Entry);
+
+   --  "each created task stands in exactly one of ready, delayed, waiting"
+   type Standing is (Absent, Ready, Delayed, Waiting);
+
+   type Task_State (Stands : Standing := Absent) is record
+      Base : Priority := 0;
+      case Stands is
+         when Absent =>
+            null;
+         when Ready =>
+            Turn  : Moment    := 0;  --  the lower, the nearer to the front
+            Holds : Object_Id := Null_Object;
+            Way   : Way_In    := By_Open;  --  has a meaning while it holds
+         when Delayed =>
+            Time    : Ticks;
+            Arrival : Moment;
+         when Waiting =>
+            On : Real_Object;
+      end case;
+   end record;
+
+   type Object_State is record
+      Declared : Boolean  := False;
+      Ceiling  : Priority := 0;
+   end record;
+
+   type Task_Set is array (Task_Id) of Task_State;
+   type Object_Set is array (Real_Object) of Object_State;
+
+   --  "The fresh machine has task 0 alone, no object, clock 0, and is not
+   --  started": that is a State with its defaults.
+   type State is record
+      Tasks     : Task_Set := (Idle   => (Stands => Ready, others => <>),
+                               others => (Stands => Absent, others => <>));
+      Objects   : Object_Set;
+      Clock     : Ticks   := 0;
+      Started   : Boolean := False;
+      Last_Turn : Moment  := 0;  --  the highest turn given at a tail
+      Head_Turn : Moment  := 0;  --  the lowest turn given at a head
+      Arrivals  : Moment  := 0;  --  the last arrival in the delay line
+   end record;
+
+   --  "After Start its front is the running task"; "Before Start the running
+   --  task is reported as 0."
+   function Running (M : State) return Task_Id;
+
+   --  "Active priority is the ceiling of the object held, else the base."
+   function Active (M : State; T : Task_Id) return Priority
+     with Pre => M.Tasks (T).Stands = Ready;
+
+   --  The object that a task holds; the null object if none.
+   function Object_Held (M : State; T : Task_Id) return Object_Id;
+
+   --  The task that holds, or waits on, an object; Idle if there is none,
+   --  since task 0 never holds and never waits.
+   function Holder (M : State; Object : Real_Object) return Task_Id;
+   function Waiter (M : State; Object : Real_Object) return Task_Id;
+
+   --  The first of the delay line; Idle if it is empty.
+   function First_Delayed (M : State) return Task_Id;
+
+   --  One command: the state after it and the answer.
+   procedure Step (M : in out State; C : Command; Result : out Answer);
+
+   --  Question "Wakes left", over a state and a task 1..31.
+   procedure Wakes_Left
+     (M      : State;
+      T      : Natural;
+      Number : out Code;
+      Wakes  : out Natural);
+
+end Machine;
