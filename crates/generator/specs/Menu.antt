@@ -28,8 +28,11 @@ abbrev pub sift : (ℕ → Bool) → List ℕ → List ℕ
 sift f [] = []
 sift f (x ∷ l) = cond (f x) (x ∷ sift f l) (sift f l)
 
+abbrev pub objects : List ℕ
+objects = 1 ∷ 2 ∷ 3 ∷ 4 ∷ 5 ∷ 6 ∷ 7 ∷ []
+
 abbrev pub eligibles : Machine → List ℕ
-eligibles m = sift (eligible m) (1 ∷ 2 ∷ 3 ∷ 4 ∷ 5 ∷ 6 ∷ 7 ∷ [])
+eligibles m = sift (eligible m) objects
 
 -- the eligible object number d mod (their count), counted from 0 upward
 abbrev pub pick : Machine → ℕ → ℕ

@@ -3,15 +3,15 @@ use Prim.Native.Nat.{ℕ, _≤_, _<_}
 use native.Mathlib.Omega.{arith}
 use mathlib.Core.Path.{_≡_, refl, sym, ap, _∙_}
 use mathlib.Core.Logic.{_≢_}
-use mathlib.Core.Bool.{Bool, true, false, cond, not, _&&_, _||_}
-use lib.Dec.{eqb, leb}
-use borrow.Author.Tests.{eq-eqb, ne-eqb, le-leb, lt-leb}
+use mathlib.Core.Bool.{true, false}
+use lib.Dec.{eqb}
+use borrow.Author.Tests.{ne-eqb, le-leb, lt-leb}
 use Rattle.rules.specs.Line.{at}
 use Rattle.rules.specs.Run.{question, wakes-left}
 use Rattle.line.specs.Tables.{lead, time-in}
 use Rattle.kernel.specs.declared.Kernel.{Kernel}
 use Rattle.kernel.specs.declared.Left.{Left}
-use Rattle.kernel.specs.View.{view, encode}
+use Rattle.kernel.specs.View.{view}
 use Rattle.kernel.specs.Public.{isSound, leftOf}
 use Rattle.kernel.specs.Step.{dueCount}
 use Rattle.kernel.proofs.Written.{stands}

@@ -11,7 +11,12 @@ use Rattle.kernel.specs.declared.Kernel.{Kernel}
 use Rattle.kernel.specs.declared.command.Command.{Command}
 use Rattle.kernel.specs.View.{encode, view, tidy}
 use Rattle.kernel.specs.Public.{isSound, stepOf}
-use Rattle.promises.specs.Words.{freshOf, stepped}
+use Rattle.generator.specs.declared.Profile.{Profile}
+use Rattle.generator.specs.Xorshift.{draw}
+use Rattle.generator.specs.Menu.{menu}
+use Rattle.generator.specs.Draw.{drawn, draw-refusal, chosen}
+use Rattle.generator.specs.Public.{drawnIn, drawnOf}
+use Rattle.promises.specs.Words.{freshOf, stepped, runOf}
 
 -- a line of the walk: its number, op, code, running, released and clock
 pub record Line : Type 0 where
@@ -43,7 +48,13 @@ abbrev pub walk : List Command
 walk =
     setUp ++ (cmd 4 0 0 10 ∷ cmd 7 1 0 0 ∷ cmd 6 0 0 10 ∷ cmd 5 0 0 0 ∷ cmd 7 1 0 0 ∷ cmd 4 0 0 20 ∷ cmd 8 1 1 0 ∷ cmd 10 1 0 0 ∷ cmd 10 1 0 0 ∷ cmd 7 1 0 0 ∷ cmd 8 1 1 0 ∷ [])
 
-pub worked : linesOf 1 freshOf walk ≡
+-- seed 1 span 100 weights 10 10 10 10 10 10 10 10
+abbrev tens : Profile
+tens = record { span = 100; weights = 10 ∷ 10 ∷ 10 ∷ 10 ∷ 10 ∷ 10 ∷ 10 ∷ 10 ∷ [] }
+
+-- The walk's sixteen lines; the first three draws from seed 1; and the command that seed 1 draws behind the set-up, the delay until 39.
+pub worked :
+    (linesOf 1 freshOf walk ≡
     line 1 1 0 0 0 0 ∷
     line 2 1 0 0 0 0 ∷
     line 3 1 0 0 0 0 ∷
@@ -59,6 +70,8 @@ pub worked : linesOf 1 freshOf walk ≡
     line 13 10 0 3 0 10 ∷
     line 14 10 12 3 0 10 ∷
     line 15 7 0 3 0 10 ∷
-    line 16 8 0 3 1 10 ∷ []
-unfolding stepOf freshOf isSound tidy view encode sound all-below rules.answer rules.next rules.released refusal carry leave release
-worked = refl
+    line 16 8 0 3 1 10 ∷ [])
+    × (draw 1 ∷ draw (draw 1) ∷ draw (draw (draw 1)) ∷ [] ≡ 270369 ∷ 67634689 ∷ 2647435461 ∷ [])
+    × (drawnOf (runOf freshOf setUp) 1 tens ≡ record { code = 0; command = cmd 4 0 0 39; seed = 2647435461 })
+unfolding runOf stepOf freshOf isSound tidy view encode sound all-below rules.answer rules.next rules.released refusal carry leave release draw drawnOf drawnIn drawn draw-refusal chosen menu
+worked = (refl, refl, refl)

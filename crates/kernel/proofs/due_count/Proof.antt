@@ -1,21 +1,14 @@
-use mathlib.Core.Path.{_≡_, refl, sym, ap, _∙_}
+-- `due_count` meets its contract: the callees' contracts, one after the other. Assumes nothing.
 use borrow.Author.Needs.{needs}
 use Rattle.kernel.proofs.due_count.Statement.{statement}
 use Rattle.kernel.proofs.due_count.Tie as tie
-use Rattle.kernel.proofs.due_count.Reads as reads
-use Rattle.kernel.proofs.due_count.Lts as lts
-use Rattle.line.proofs.choose.Reads as choose-reads
-use Rattle.line.proofs.one_more.Reads as one-more-reads
 
--- src/lib.rt:141:50
 one-more-requires : tie.Need-one-more-requires
 one-more-requires c κs = search needs
 
--- src/lib.rt:141:5
 choose-requires : tie.Need-choose-requires
 choose-requires c κs = search needs
 
--- src/lib.rt:138:1
 returns : tie.Need-returns
 returns c = rw (c .choose .ensures, c .before .one-more .ensures)
 

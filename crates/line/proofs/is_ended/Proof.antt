@@ -1,16 +1,15 @@
-use Prim.Native.Nat.{ℕ, _+_, _-_, _≤_, _<_}
-use mathlib.Core.Path.{_≡_, refl, sym, ap, _∙_}
+-- `line::is_ended` meets its contract. The invariant: the line is ended just when it is so far and the rest is. Assumes nothing.
+use Prim.Native.Nat.{_-_, _≤_}
+use mathlib.Core.Path.{_≡_, sym, _∙_}
 use native.Mathlib.Omega.{arith}
-use lib.ListN.{length, getD, take, drop, set, replicate, length-set, length-replicate}
+use lib.ListN.{length, drop}
 use Rattle.line.proofs.Laws.{pairs-step, pairs-done}
 use Rattle.line.specs.Tables.{ended}
-use mathlib.Core.Bool.{Bool, _&&_, _||_, not}
+use mathlib.Core.Bool.{_&&_, _||_, not}
 use lib.Dec.{eqb}
 use borrow.Author.Needs.{needs}
 use Rattle.line.proofs.is_ended.Statement.{statement}
 use Rattle.line.proofs.is_ended.Tie as tie
-use Rattle.line.proofs.is_ended.Reads as reads
-use Rattle.line.proofs.is_ended.Lts as lts
 
 abbrev Inv-loop : tie.InvT-loop
 Inv-loop line ends₀ i₀ ends i = (i ≤ 31) × (ended line ≡ ends && ended (drop i line))
@@ -18,40 +17,34 @@ Inv-loop line ends₀ i₀ ends i = (i ≤ 31) × (ended line ≡ ends && ended 
 abbrev μ-loop : tie.MeasureT-loop
 μ-loop line ends₀ i₀ ends i = 31 - i
 
--- src/lib.rt:279:5
 loop-holds : tie.Need-loop-holds Inv-loop μ-loop
 loop-holds c = search needs
 
--- src/lib.rt:280:26
 array-read-ends : tie.Need-array-read-ends Inv-loop μ-loop
 array-read-ends c = search needs
 
--- src/lib.rt:280:48
 add-ends : tie.Need-add-ends Inv-loop μ-loop
 add-ends c = search needs
 
--- src/lib.rt:280:43
 array-read-ends-2 : tie.Need-array-read-ends-2 Inv-loop μ-loop
 array-read-ends-2 c = search needs
 
--- src/lib.rt:281:9
 add-i : tie.Need-add-i Inv-loop μ-loop
 add-i c = search needs
 
--- src/lib.rt:279:5
 loop-less : tie.Need-loop-less Inv-loop μ-loop
 loop-less c = search needs
 
--- src/lib.rt:279:5
 loop-again : tie.Need-loop-again Inv-loop μ-loop
-loop-again c = let h = c .before in
+loop-again c =
+    let h = c .before in
     let a = h .before .args in
     let len : length (a .t1) ≡ 32 = search needs in
     (omega arith, h .loop .inv .1 ∙ pairs-step (λ x y. not (eqb x 0) || eqb y 0) (a .t1) (h .loop .i) (h .loop .ends) (omega arith))
 
--- src/lib.rt:274:1
 returns : tie.Need-returns Inv-loop μ-loop
-returns c = let h = c .before in
+returns c =
+    let h = c .before in
     let a = h .before .args in
     let len : length (a .t1) ≡ 32 = search needs in
     sym (h .loop .inv .1 ∙ pairs-done (λ x y. not (eqb x 0) || eqb y 0) (a .t1) (h .loop .i) (h .loop .ends) (omega arith))

@@ -1,18 +1,16 @@
-use Prim.Native.Nat.{ℕ, _+_, _-_, _≤_, _<_}
-use mathlib.Core.Path.{_≡_, refl, sym, ap, _∙_}
+-- `line::is_falling` meets its contract. The invariant: the line is in order just when the rest is, behind the level of the last entry passed.
+-- Assumes nothing.
+use Prim.Native.Nat.{ℕ, _+_, _-_}
+use mathlib.Core.Path.{_≡_, sym, ap, _∙_}
 use native.Mathlib.Omega.{arith}
-use lib.ListN.{length, getD, take, drop, set, replicate, length-set, length-replicate}
+use lib.ListN.{length, getD, drop}
 use Rattle.line.proofs.Laws.{ordered-free, ordered-out, ordered-stop, ordered-step, ordered-done}
-use Rattle.line.specs.Tables.{falls, ordered, level}
+use Rattle.line.specs.Tables.{falls, level}
 use lib.Dec.{leb}
-use borrow.Author.Tests.{lt-leb, le-leb, lt-ltb, le-ltb, eq-eqb, ne-eqb}
+use borrow.Author.Tests.{lt-leb, le-leb}
 use borrow.Author.Needs.{needs}
 use Rattle.line.proofs.is_falling.Statement.{statement}
 use Rattle.line.proofs.is_falling.Tie as tie
-use Rattle.line.proofs.is_falling.Reads as reads
-use Rattle.line.proofs.is_falling.Lts as lts
-use Rattle.line.proofs.choose.Reads as choose-reads
-use Rattle.line.proofs.of_object.Reads as of-object-reads
 
 abbrev Inv-loop : tie.InvT-loop
 Inv-loop ceiling line base held last₀ i₀ last i = falls base ceiling held 15 line ≡ falls base ceiling held last (drop i line)
@@ -20,75 +18,66 @@ Inv-loop ceiling line base held last₀ i₀ last i = falls base ceiling held 15
 abbrev μ-loop : tie.MeasureT-loop
 μ-loop ceiling line base held last₀ i₀ last i = 32 - i
 
--- src/lib.rt:305:5
 loop-holds : tie.Need-loop-holds Inv-loop μ-loop
 loop-holds c = search needs
 
--- src/lib.rt:306:17
 array-read-x : tie.Need-array-read-x Inv-loop μ-loop
 array-read-x c = search needs
 
--- src/lib.rt:308:13
 returns : tie.Need-returns Inv-loop μ-loop
-returns c = let h = c .before .before in
+returns c =
+    let h = c .before .before in
     let a = h .before .args in
     let len : length (a .t1) ≡ 32 = search needs in
     sym (h .loop .inv ∙ ordered-free (λ a b. leb b a) (level (a .t2) (a .ceiling) (a .t4)) (h .loop .last) (a .t1) (h .loop .i) (omega arith) (c .if1 .taken))
 
--- src/lib.rt:311:13
 returns-2 : tie.Need-returns-2 Inv-loop μ-loop
-returns-2 c = let h = c .before .before .before in
+returns-2 c =
+    let h = c .before .before .before in
     let a = h .before .args in
     let len : length (a .t1) ≡ 32 = search needs in
     sym (h .loop .inv ∙ ordered-out (λ a b. leb b a) (level (a .t2) (a .ceiling) (a .t4)) (h .loop .last) (a .t1) (h .loop .i) (omega arith) (c .before .if1 .left) (c .if2 .taken))
 
--- src/lib.rt:313:17
 cast-j : tie.Need-cast-j Inv-loop μ-loop
 cast-j c = search needs
 
--- src/lib.rt:314:17
 array-read-o : tie.Need-array-read-o Inv-loop μ-loop
 array-read-o c = search needs
 
--- src/lib.rt:315:13
 of-object-requires : tie.Need-of-object-requires Inv-loop μ-loop
 of-object-requires c κs = search needs
 
--- src/lib.rt:316:36
 array-read-choose : tie.Need-array-read-choose Inv-loop μ-loop
 array-read-choose c = search needs
 
--- src/lib.rt:316:13
 choose-requires : tie.Need-choose-requires Inv-loop μ-loop
 choose-requires c κs = search needs
 
--- src/lib.rt:318:13
 returns-3 : tie.Need-returns-3 Inv-loop μ-loop
-returns-3 c = let h = c .before .before .before .before .before .before in
+returns-3 c =
+    let h = c .before .before .before .before .before .before in
     let a = h .before .args in
     let len : length (a .t1) ≡ 32 = search needs in
     let same : c .before .choose .result ≡ level (a .t2) (a .ceiling) (a .t4) (getD (a .t1) (h .loop .i) 0) = rw (c .before .choose .ensures, c .before .before .of-object .ensures) in
     sym (h .loop .inv ∙ ordered-stop (λ a b. leb b a) (level (a .t2) (a .ceiling) (a .t4)) (h .loop .last) (a .t1) (h .loop .i) (omega arith) (c .before .before .before .before .if1 .left) (c .before .before .before .if2 .left) (ap (λ (v : ℕ). leb v (h .loop .last)) (sym same) ∙ lt-leb _ _ (c .if3 .taken)))
 
--- src/lib.rt:321:9
 add-i : tie.Need-add-i Inv-loop μ-loop
 add-i c = search needs
 
--- src/lib.rt:305:5
 loop-less : tie.Need-loop-less Inv-loop μ-loop
 loop-less c = search needs
 
--- src/lib.rt:305:5
 loop-again : tie.Need-loop-again Inv-loop μ-loop
-loop-again c = let h = c .before .before .before .before .before .before in
+loop-again c =
+    let h = c .before .before .before .before .before .before in
     let a = h .before .args in
     let len : length (a .t1) ≡ 32 = search needs in
     let same : c .before .choose .result ≡ level (a .t2) (a .ceiling) (a .t4) (getD (a .t1) (h .loop .i) 0) = rw (c .before .choose .ensures, c .before .before .of-object .ensures) in
     h .loop .inv ∙ ordered-step (λ a b. leb b a) (level (a .t2) (a .ceiling) (a .t4)) (h .loop .last) (a .t1) (h .loop .i) (omega arith) (c .before .before .before .before .if1 .left) (c .before .before .before .if2 .left) (ap (λ (v : ℕ). leb v (h .loop .last)) (sym same) ∙ le-leb _ _ (c .if3 .left)) ∙ ap (λ (v : ℕ). falls (a .t2) (a .ceiling) (a .t4) v (drop (h .loop .i + 1) (a .t1))) (sym same)
 
--- src/lib.rt:300:1
 returns-4 : tie.Need-returns-4 Inv-loop μ-loop
-returns-4 c = let h = c .before in
+returns-4 c =
+    let h = c .before in
     let a = h .before .args in
     let len : length (a .t1) ≡ 32 = search needs in
     sym (h .loop .inv ∙ ordered-done (λ a b. leb b a) (level (a .t2) (a .ceiling) (a .t4)) (h .loop .last) (a .t1) (h .loop .i) (omega arith))

@@ -1,17 +1,17 @@
-use Prim.Native.Nat.{ℕ, _+_, _-_, _≤_, _<_}
-use mathlib.Core.Path.{_≡_, refl, sym, ap, _∙_}
+-- `line::is_rising` meets its contract. The invariant: the line is in order just when the rest is, behind the time of the last entry passed.
+-- Assumes nothing.
+use Prim.Native.Nat.{_-_}
+use mathlib.Core.Path.{_≡_, sym, _∙_}
 use native.Mathlib.Omega.{arith}
-use lib.ListN.{length, getD, take, drop, set, replicate, length-set, length-replicate}
+use lib.ListN.{length, drop}
 use Rattle.line.proofs.Laws.{ordered-free, ordered-out, ordered-stop, ordered-step, ordered-done}
-use Rattle.line.specs.Tables.{rises, ordered}
+use Rattle.line.specs.Tables.{rises}
 use lib.Dec.{leb}
 use Rattle.rules.specs.Line.{at}
-use borrow.Author.Tests.{lt-leb, le-leb, lt-ltb, le-ltb, eq-eqb, ne-eqb}
+use borrow.Author.Tests.{lt-leb, le-leb}
 use borrow.Author.Needs.{needs}
 use Rattle.line.proofs.is_rising.Statement.{statement}
 use Rattle.line.proofs.is_rising.Tie as tie
-use Rattle.line.proofs.is_rising.Reads as reads
-use Rattle.line.proofs.is_rising.Lts as lts
 
 abbrev Inv-loop : tie.InvT-loop
 Inv-loop until line last₀ i₀ last i = rises until 0 line ≡ rises until last (drop i line)
@@ -19,65 +19,58 @@ Inv-loop until line last₀ i₀ last i = rises until 0 line ≡ rises until las
 abbrev μ-loop : tie.MeasureT-loop
 μ-loop until line last₀ i₀ last i = 32 - i
 
--- src/lib.rt:332:5
 loop-holds : tie.Need-loop-holds Inv-loop μ-loop
 loop-holds c = search needs
 
--- src/lib.rt:333:17
 array-read-x : tie.Need-array-read-x Inv-loop μ-loop
 array-read-x c = search needs
 
--- src/lib.rt:335:13
 returns : tie.Need-returns Inv-loop μ-loop
-returns c = let h = c .before .before in
+returns c =
+    let h = c .before .before in
     let a = h .before .args in
     let len : length (a .t1) ≡ 32 = search needs in
     sym (h .loop .inv ∙ ordered-free leb (at (a .until .now)) (h .loop .last) (a .t1) (h .loop .i) (omega arith) (c .if1 .taken))
 
--- src/lib.rt:338:13
 returns-2 : tie.Need-returns-2 Inv-loop μ-loop
-returns-2 c = let h = c .before .before .before in
+returns-2 c =
+    let h = c .before .before .before in
     let a = h .before .args in
     let len : length (a .t1) ≡ 32 = search needs in
     sym (h .loop .inv ∙ ordered-out leb (at (a .until .now)) (h .loop .last) (a .t1) (h .loop .i) (omega arith) (c .before .if1 .left) (c .if2 .taken))
 
--- src/lib.rt:340:17
 cast-j : tie.Need-cast-j Inv-loop μ-loop
 cast-j c = search needs
 
--- src/lib.rt:341:20
 mul-time : tie.Need-mul-time Inv-loop μ-loop
 mul-time c = search needs
 
--- src/lib.rt:341:20
 element-copy-out-time : tie.Need-element-copy-out-time Inv-loop μ-loop
 element-copy-out-time c = search needs
 
--- src/lib.rt:343:13
 returns-3 : tie.Need-returns-3 Inv-loop μ-loop
-returns-3 c = let h = c .before .before .before .before .before in
+returns-3 c =
+    let h = c .before .before .before .before .before in
     let a = h .before .args in
     let len : length (a .t1) ≡ 32 = search needs in
     sym (h .loop .inv ∙ ordered-stop leb (at (a .until .now)) (h .loop .last) (a .t1) (h .loop .i) (omega arith) (c .before .before .before .if1 .left) (c .before .before .if2 .left) (lt-leb _ _ (c .if3 .taken)))
 
--- src/lib.rt:346:9
 add-i : tie.Need-add-i Inv-loop μ-loop
 add-i c = search needs
 
--- src/lib.rt:332:5
 loop-less : tie.Need-loop-less Inv-loop μ-loop
 loop-less c = search needs
 
--- src/lib.rt:332:5
 loop-again : tie.Need-loop-again Inv-loop μ-loop
-loop-again c = let h = c .before .before .before .before .before in
+loop-again c =
+    let h = c .before .before .before .before .before in
     let a = h .before .args in
     let len : length (a .t1) ≡ 32 = search needs in
     h .loop .inv ∙ ordered-step leb (at (a .until .now)) (h .loop .last) (a .t1) (h .loop .i) (omega arith) (c .before .before .before .if1 .left) (c .before .before .if2 .left) (le-leb _ _ (c .if3 .left))
 
--- src/lib.rt:327:1
 returns-4 : tie.Need-returns-4 Inv-loop μ-loop
-returns-4 c = let h = c .before in
+returns-4 c =
+    let h = c .before in
     let a = h .before .args in
     let len : length (a .t1) ≡ 32 = search needs in
     sym (h .loop .inv ∙ ordered-done leb (at (a .until .now)) (h .loop .last) (a .t1) (h .loop .i) (omega arith))

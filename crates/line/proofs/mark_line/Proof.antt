@@ -1,16 +1,14 @@
-use Prim.Native.Nat.{ℕ, _+_, _-_, _≤_, _<_}
-use mathlib.Core.Path.{_≡_, refl, sym, ap, _∙_}
+-- `line::mark_line` meets its contract. The invariant: the marks are those of the rest on top of what is marked so far. Assumes nothing.
+use Prim.Native.Nat.{_-_}
+use mathlib.Core.Path.{_≡_, sym, _∙_}
 use native.Mathlib.Omega.{arith}
-use lib.ListN.{length, getD, take, drop, set, replicate, length-set, length-replicate}
+use lib.ListN.{length, getD, drop, length-set}
 use Rattle.line.proofs.Laws.{marks-step, marks-stop, marks-done}
 use Rattle.line.specs.Tables.{marks, no-task}
-use borrow.Author.Tests.{lt-leb, le-leb, lt-ltb, le-ltb, eq-eqb, ne-eqb}
+use borrow.Author.Tests.{lt-leb, le-leb, eq-eqb, ne-eqb}
 use borrow.Author.Needs.{needs}
 use Rattle.line.proofs.mark_line.Statement.{statement}
 use Rattle.line.proofs.mark_line.Tie as tie
-use Rattle.line.proofs.mark_line.Reads as reads
-use Rattle.line.proofs.mark_line.Lts as lts
-use Rattle.line.proofs.choose.Reads as choose-reads
 
 abbrev Inv-loop : tie.InvT-loop
 Inv-loop mark line out₀ i₀ out i = (length out ≡ 32) × (marks no-task mark line out₀ ≡ marks no-task mark (drop i line) out)
@@ -18,64 +16,56 @@ Inv-loop mark line out₀ i₀ out i = (length out ≡ 32) × (marks no-task mar
 abbrev μ-loop : tie.MeasureT-loop
 μ-loop mark line out₀ i₀ out i = 32 - i
 
--- src/lib.rt:237:5
 loop-holds : tie.Need-loop-holds Inv-loop μ-loop
 loop-holds c = search needs
 
--- src/lib.rt:238:17
 array-read-x : tie.Need-array-read-x Inv-loop μ-loop
 array-read-x c = search needs
 
--- src/lib.rt:240:13
 returns : tie.Need-returns Inv-loop μ-loop
-returns c = let h = c .before .before in
+returns c =
+    let h = c .before .before in
     let a = h .before .args in
     let len : length (a .t1) ≡ 32 = search needs in
     sym (h .loop .inv .1 ∙ marks-stop no-task (a .mark) (a .t1) (h .loop .out) (h .loop .i) (omega arith) (rw (eq-eqb (getD (a .t1) (h .loop .i) 0) 0 (c .if1 .taken))))
 
--- src/lib.rt:243:13
 returns-2 : tie.Need-returns-2 Inv-loop μ-loop
-returns-2 c = let h = c .before .before .before in
+returns-2 c =
+    let h = c .before .before .before in
     let a = h .before .args in
     let len : length (a .t1) ≡ 32 = search needs in
     sym (h .loop .inv .1 ∙ marks-stop no-task (a .mark) (a .t1) (h .loop .out) (h .loop .i) (omega arith) (rw (ne-eqb (getD (a .t1) (h .loop .i) 0) 0 (c .before .if1 .left), le-leb 32 (getD (a .t1) (h .loop .i) 0) (c .if2 .taken))))
 
--- src/lib.rt:245:17
 cast-j : tie.Need-cast-j Inv-loop μ-loop
 cast-j c = search needs
 
--- src/lib.rt:246:24
 array-read-choose : tie.Need-array-read-choose Inv-loop μ-loop
 array-read-choose c = search needs
 
--- src/lib.rt:246:13
 choose-requires : tie.Need-choose-requires Inv-loop μ-loop
 choose-requires c κs = search needs
 
--- src/lib.rt:247:9
 array-write-out : tie.Need-array-write-out Inv-loop μ-loop
 array-write-out c = search needs
 
--- src/lib.rt:248:9
 add-i : tie.Need-add-i Inv-loop μ-loop
 add-i c = search needs
 
--- src/lib.rt:237:5
 loop-less : tie.Need-loop-less Inv-loop μ-loop
 loop-less c = search needs
 
--- src/lib.rt:237:5
 loop-again : tie.Need-loop-again Inv-loop μ-loop
-loop-again c = let h = c .before .before .before .before in
+loop-again c =
+    let h = c .before .before .before .before in
     let a = h .before .args in
     let len : length (a .t1) ≡ 32 = search needs in
     let now : length (h .loop .out) ≡ 32 = h .loop .inv .0 in
     let n = ne-eqb (getD (a .t1) (h .loop .i) 0) 0 (c .before .before .if1 .left) in
     (simp length-set now, h .loop .inv .1 ∙ marks-step no-task (a .mark) (a .t1) (h .loop .out) (h .loop .i) (omega arith) (rw (n, lt-leb 32 (getD (a .t1) (h .loop .i) 0) (c .before .if2 .left))) ∙ rw (n, c .choose .ensures))
 
--- src/lib.rt:232:1
 returns-3 : tie.Need-returns-3 Inv-loop μ-loop
-returns-3 c = let h = c .before in
+returns-3 c =
+    let h = c .before in
     let a = h .before .args in
     let len : length (a .t1) ≡ 32 = search needs in
     sym (h .loop .inv .1 ∙ marks-done no-task (a .mark) (a .t1) (h .loop .out) (h .loop .i) (omega arith))

@@ -1,17 +1,15 @@
-use Prim.Native.Nat.{ℕ, _+_, _-_, _≤_, _<_}
-use mathlib.Core.Path.{_≡_, refl, sym, ap, _∙_}
+-- `line::mark_waiting` meets its contract. The invariant: the marks are those of the rest on top of what is marked so far. Assumes nothing.
+use Prim.Native.Nat.{_-_}
+use mathlib.Core.Path.{_≡_, sym, _∙_}
 use native.Mathlib.Omega.{arith}
-use lib.ListN.{length, getD, take, drop, set, replicate, length-set, length-replicate}
+use lib.ListN.{length, getD, drop, length-set}
 use Rattle.line.proofs.Laws.{marks-step, marks-stop, marks-done}
 use Rattle.line.specs.Tables.{marks}
 use lib.Dec.{leb}
-use borrow.Author.Tests.{lt-leb, le-leb, lt-ltb, le-ltb, eq-eqb, ne-eqb}
+use borrow.Author.Tests.{lt-leb, le-leb}
 use borrow.Author.Needs.{needs}
 use Rattle.line.proofs.mark_waiting.Statement.{statement}
 use Rattle.line.proofs.mark_waiting.Tie as tie
-use Rattle.line.proofs.mark_waiting.Reads as reads
-use Rattle.line.proofs.mark_waiting.Lts as lts
-use Rattle.line.proofs.choose.Reads as choose-reads
 
 abbrev Inv-loop : tie.InvT-loop
 Inv-loop mark waiter out₀ i₀ out i = (length out ≡ 32) × (marks (leb 32) mark waiter out₀ ≡ marks (leb 32) mark (drop i waiter) out)
@@ -19,60 +17,51 @@ Inv-loop mark waiter out₀ i₀ out i = (length out ≡ 32) × (marks (leb 32) 
 abbrev μ-loop : tie.MeasureT-loop
 μ-loop mark waiter out₀ i₀ out i = 8 - i
 
--- src/lib.rt:258:5
 loop-holds : tie.Need-loop-holds Inv-loop μ-loop
 loop-holds c = search needs
 
--- src/lib.rt:259:17
 array-read-x : tie.Need-array-read-x Inv-loop μ-loop
 array-read-x c = search needs
 
--- src/lib.rt:261:13
 returns : tie.Need-returns Inv-loop μ-loop
-returns c = let h = c .before .before in
+returns c =
+    let h = c .before .before in
     let a = h .before .args in
     let len : length (a .t1) ≡ 8 = search needs in
     sym (h .loop .inv .1 ∙ marks-stop (leb 32) (a .mark) (a .t1) (h .loop .out) (h .loop .i) (omega arith) (le-leb 32 (getD (a .t1) (h .loop .i) 0) (c .if1 .taken)))
 
--- src/lib.rt:263:17
 cast-j : tie.Need-cast-j Inv-loop μ-loop
 cast-j c = search needs
 
--- src/lib.rt:264:42
 array-read-choose : tie.Need-array-read-choose Inv-loop μ-loop
 array-read-choose c = search needs
 
--- src/lib.rt:264:35
 choose-requires : tie.Need-choose-requires Inv-loop μ-loop
 choose-requires c κs = search needs
 
--- src/lib.rt:264:13
 choose-requires-2 : tie.Need-choose-requires-2 Inv-loop μ-loop
 choose-requires-2 c κs = search needs
 
--- src/lib.rt:265:9
 array-write-out : tie.Need-array-write-out Inv-loop μ-loop
 array-write-out c = search needs
 
--- src/lib.rt:266:9
 add-i : tie.Need-add-i Inv-loop μ-loop
 add-i c = search needs
 
--- src/lib.rt:258:5
 loop-less : tie.Need-loop-less Inv-loop μ-loop
 loop-less c = search needs
 
--- src/lib.rt:258:5
 loop-again : tie.Need-loop-again Inv-loop μ-loop
-loop-again c = let h = c .before .before .before .before in
+loop-again c =
+    let h = c .before .before .before .before in
     let a = h .before .args in
     let len : length (a .t1) ≡ 8 = search needs in
     let now : length (h .loop .out) ≡ 32 = h .loop .inv .0 in
     (simp length-set now, h .loop .inv .1 ∙ marks-step (leb 32) (a .mark) (a .t1) (h .loop .out) (h .loop .i) (omega arith) (lt-leb 32 (getD (a .t1) (h .loop .i) 0) (c .before .before .if1 .left)) ∙ rw (c .choose2 .ensures, c .before .choose .ensures))
 
--- src/lib.rt:253:1
 returns-2 : tie.Need-returns-2 Inv-loop μ-loop
-returns-2 c = let h = c .before in
+returns-2 c =
+    let h = c .before in
     let a = h .before .args in
     let len : length (a .t1) ≡ 8 = search needs in
     sym (h .loop .inv .1 ∙ marks-done (leb 32) (a .mark) (a .t1) (h .loop .out) (h .loop .i) (omega arith))

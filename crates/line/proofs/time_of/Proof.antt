@@ -1,27 +1,21 @@
-use borrow.Author.Tests.{lt-leb, le-leb, lt-ltb, le-ltb, eq-eqb, ne-eqb}
+-- `line::time_of` meets its contract: in the table it is the cell, past its end 0. Assumes nothing.
+use borrow.Author.Tests.{lt-ltb, le-ltb}
 use borrow.Author.Needs.{needs}
 use Rattle.line.proofs.time_of.Statement.{statement}
 use Rattle.line.proofs.time_of.Tie as tie
-use Rattle.line.proofs.time_of.Reads as reads
-use Rattle.line.proofs.time_of.Lts as lts
 
--- src/lib.rt:36:17
 cast-i : tie.Need-cast-i
 cast-i c = search needs
 
--- src/lib.rt:37:9
 mul-result : tie.Need-mul-result
 mul-result c = search needs
 
--- src/lib.rt:37:9
 element-copy-out-result : tie.Need-element-copy-out-result
 element-copy-out-result c = search needs
 
--- src/lib.rt:31:1
 returns : tie.Need-returns
 returns c = rw (lt-ltb _ 32 (c .before .if1 .taken))
 
--- src/lib.rt:31:1
 returns-2 : tie.Need-returns-2
 returns-2 c = rw (le-ltb _ 32 (c .if1 .left))
 

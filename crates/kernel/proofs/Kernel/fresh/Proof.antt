@@ -1,12 +1,9 @@
-use mathlib.Core.Path.{_≡_, refl, sym, ap, _∙_}
+-- `Kernel::fresh` is the encoding of the rules' fresh machine: both compute to the same tables. Assumes nothing.
+use mathlib.Core.Path.{refl}
 use Rattle.kernel.specs.View.{encode}
-use borrow.Author.Needs.{needs}
 use Rattle.kernel.proofs.Kernel.fresh.Statement.{statement}
 use Rattle.kernel.proofs.Kernel.fresh.Tie as tie
-use Rattle.kernel.proofs.Kernel.fresh.Reads as reads
-use Rattle.kernel.proofs.Kernel.fresh.Lts as lts
 
--- src/lib.rt:60:5
 returns : tie.Need-returns
 unfolding encode
 returns c = refl

@@ -1,70 +1,53 @@
-use Prim.Native.Nat.{ℕ, _+_, _-_, _≤_, _<_, _^_}
-use mathlib.Core.Path.{_≡_, refl, sym, ap, _∙_}
-use native.Mathlib.Omega.{arith}
-use mathlib.Core.Bool.{Bool, true, false, _&&_, _||_, not, cond}
-use borrow.Author.Tests.{lt-leb, le-leb, lt-ltb, le-ltb, eq-eqb, ne-eqb, not-true, not-false}
-use Rattle.kernel.specs.Public.{isSound, leftOf}
+-- `Kernel::wakes_left` is leftOf: each return is one of the cases of Question. Assumes nothing.
+use Prim.Native.Nat.{_-_}
+use mathlib.Core.Path.{_≡_, sym, _∙_}
+use mathlib.Core.Bool.{true, false}
+use borrow.Author.Tests.{not-true, not-false}
+use Rattle.kernel.specs.Public.{isSound}
 use Rattle.kernel.proofs.Question.{asked-unsound, asked-idle, asked-past, asked-missing, asked-count}
 use borrow.Author.Needs.{needs}
 use Rattle.kernel.proofs.Kernel.wakes_left.Statement.{statement}
 use Rattle.kernel.proofs.Kernel.wakes_left.Tie as tie
-use Rattle.kernel.proofs.Kernel.wakes_left.Reads as reads
-use Rattle.kernel.proofs.Kernel.wakes_left.Lts as lts
-use Rattle.kernel.proofs.Kernel.sound.Reads as sound-reads
-use Rattle.kernel.proofs.due_count.Reads as due-count-reads
-use Rattle.line.proofs.lead_task.Reads as lead-task-reads
-use Rattle.line.proofs.of_task.Reads as of-task-reads
-use Rattle.line.proofs.time_of.Reads as time-of-reads
 
--- src/lib.rt:102:13
 sound-requires : tie.Need-sound-requires
 sound-requires c κs = search needs
 
--- src/lib.rt:103:13
 returns : tie.Need-returns
 returns c = let k = c .before .before .args .t1 in
     let t = c .before .before .args .t .0 in
     let e : isSound k ≡ false = sym (c .before .sound .ensures) ∙ not-true _ (c .if1 .taken) in
     asked-unsound k t e
 
--- src/lib.rt:106:13
 returns-2 : tie.Need-returns-2
 returns-2 c = let k = c .before .before .before .before .args .t1 in
     let t = c .before .before .before .before .args .t .0 in
     let e : isSound k ≡ true = sym (c .before .before .before .sound .ensures) ∙ not-false _ (c .before .before .if1 .left) in
     asked-idle k t e (c .if2 .taken)
 
--- src/lib.rt:109:13
 returns-3 : tie.Need-returns-3
 returns-3 c = let k = c .before .before .before .before .before .before .args .t1 in
     let t = c .before .before .before .before .before .before .args .t .0 in
     let e : isSound k ≡ true = sym (c .before .before .before .before .before .sound .ensures) ∙ not-false _ (c .before .before .before .before .if1 .left) in
     asked-past k t e (c .if3 .taken)
 
--- src/lib.rt:112:12
 of-task-requires : tie.Need-of-task-requires
 of-task-requires c κs = search needs
 
--- src/lib.rt:113:13
 returns-4 : tie.Need-returns-4
 returns-4 c = let k = c .before .before .before .before .before .before .before .before .before .args .t1 in
     let t = c .before .before .before .before .before .before .before .before .before .args .t .0 in
     let e : isSound k ≡ true = sym (c .before .before .before .before .before .before .before .before .sound .ensures) ∙ not-false _ (c .before .before .before .before .before .before .before .if1 .left) in
     asked-missing k t e (c .before .before .before .before .before .if2 .left) (c .before .before .before .if3 .left) (sym (c .before .of-task .ensures) ∙ c .if4 .taken)
 
--- src/lib.rt:119:17
 lead-task-requires : tie.Need-lead-task-requires
 lead-task-requires c κs = search needs
 
--- src/lib.rt:120:17
 time-of-requires : tie.Need-time-of-requires
 time-of-requires c κs = search needs
 
--- src/lib.rt:118:19
 due-count-requires : tie.Need-due-count-requires
 due-count-requires c κs = search needs
 
--- src/lib.rt:99:5
 returns-5 : tie.Need-returns-5
 returns-5 c = let k = c .before .before .before .before .before .before .before .before .before .before .before .before .before .before .before .args .t1 in
     let t = c .before .before .before .before .before .before .before .before .before .before .before .before .before .before .before .args .t .0 in

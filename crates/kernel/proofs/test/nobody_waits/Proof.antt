@@ -1,16 +1,15 @@
-use Prim.Native.Nat.{ℕ, _+_, _-_, _≤_, _<_, _^_}
-use mathlib.Core.Path.{_≡_, refl, sym, ap, _∙_}
+-- `nobody_waits` meets its contract. The invariant: nobody waits just when nobody does so far and at the rest. Assumes nothing.
+use Prim.Native.Nat.{_-_, _≤_}
+use mathlib.Core.Path.{_≡_, sym, _∙_}
 use native.Mathlib.Omega.{arith}
-use lib.ListN.{length, getD, take, drop, set, replicate, length-set, length-replicate}
+use lib.ListN.{length, drop}
 use Rattle.line.proofs.Laws.{every-step, every-done}
 use Rattle.line.specs.Tables.{zeros}
-use mathlib.Core.Bool.{Bool, true, false, _&&_, _||_, not, cond}
-use lib.Dec.{eqb, leb, ltb}
+use mathlib.Core.Bool.{_&&_}
+use lib.Dec.{eqb}
 use borrow.Author.Needs.{needs}
 use Rattle.kernel.proofs.test.nobody_waits.Statement.{statement}
 use Rattle.kernel.proofs.test.nobody_waits.Tie as tie
-use Rattle.kernel.proofs.test.nobody_waits.Reads as reads
-use Rattle.kernel.proofs.test.nobody_waits.Lts as lts
 
 abbrev Inv-loop : tie.InvT-loop
 Inv-loop waiter free₀ i₀ free i = (i ≤ 8) × (zeros waiter ≡ free && zeros (drop i waiter))
@@ -18,30 +17,24 @@ Inv-loop waiter free₀ i₀ free i = (i ≤ 8) × (zeros waiter ≡ free && zer
 abbrev μ-loop : tie.MeasureT-loop
 μ-loop waiter free₀ i₀ free i = 8 - i
 
--- src/test.rt:113:5
 loop-holds : tie.Need-loop-holds Inv-loop μ-loop
 loop-holds c = search needs
 
--- src/test.rt:114:24
 array-read-free : tie.Need-array-read-free Inv-loop μ-loop
 array-read-free c = search needs
 
--- src/test.rt:115:9
 add-i : tie.Need-add-i Inv-loop μ-loop
 add-i c = search needs
 
--- src/test.rt:113:5
 loop-less : tie.Need-loop-less Inv-loop μ-loop
 loop-less c = search needs
 
--- src/test.rt:113:5
 loop-again : tie.Need-loop-again Inv-loop μ-loop
 loop-again c = let h = c .before in
     let a = h .before .args in
     let len : length (a .t1) ≡ 8 = search needs in
     (omega arith, h .loop .inv .1 ∙ every-step (λ x. eqb x 0) (a .t1) (h .loop .i) (h .loop .free) (omega arith))
 
--- src/test.rt:108:1
 returns : tie.Need-returns Inv-loop μ-loop
 returns c = let h = c .before in
     let a = h .before .args in

@@ -1,19 +1,13 @@
-use Prim.Native.Nat.{ℕ, _+_, _-_, _≤_, _<_, _^_}
-use mathlib.Core.Path.{_≡_, refl, sym, ap, _∙_}
+-- `objects_fit` meets its contract. The invariant: the objects passed fit. Assumes nothing.
+use Prim.Native.Nat.{_-_, _≤_}
+use mathlib.Core.Path.{_≡_, refl}
 use native.Mathlib.Omega.{arith}
-use lib.ListN.{length, getD, take, drop, set, replicate, length-set, length-replicate}
 use Rattle.kernel.proofs.Loops.{gather}
 use Rattle.kernel.specs.Test.{objectsFit, objectFits}
 use Rattle.rules.specs.Line.{at, all-below}
-use mathlib.Core.Bool.{Bool, true, false, _&&_, _||_, not, cond}
-use lib.Dec.{eqb, leb, ltb}
 use borrow.Author.Needs.{needs}
 use Rattle.kernel.proofs.test.objects_fit.Statement.{statement}
 use Rattle.kernel.proofs.test.objects_fit.Tie as tie
-use Rattle.kernel.proofs.test.objects_fit.Reads as reads
-use Rattle.kernel.proofs.test.objects_fit.Lts as lts
-use Rattle.kernel.proofs.test.object_fits.Reads as object-fits-reads
-use Rattle.line.proofs.of_task.Reads as of-task-reads
 
 abbrev Inv-loop : tie.InvT-loop
 Inv-loop base ceiling waiter fit₀ o₀ fit o = (o ≤ 8) × (fit ≡ all-below o (λ o. objectFits o (at ceiling o) (at waiter o) (at base (at waiter o))))
@@ -21,46 +15,36 @@ Inv-loop base ceiling waiter fit₀ o₀ fit o = (o ≤ 8) × (fit ≡ all-below
 abbrev μ-loop : tie.MeasureT-loop
 μ-loop base ceiling waiter fit₀ o₀ fit o = 8 - o
 
--- src/test.rt:99:5
 loop-holds : tie.Need-loop-holds Inv-loop μ-loop
 unfolding all-below
 loop-holds c = (omega arith, refl)
 
--- src/test.rt:100:17
 cast-i : tie.Need-cast-i Inv-loop μ-loop
 cast-i c = search needs
 
--- src/test.rt:101:17
 array-read-w : tie.Need-array-read-w Inv-loop μ-loop
 array-read-w c = search needs
 
--- src/test.rt:102:30
 array-read-object-fits : tie.Need-array-read-object-fits Inv-loop μ-loop
 array-read-object-fits c = search needs
 
--- src/test.rt:102:45
 of-task-requires : tie.Need-of-task-requires Inv-loop μ-loop
 of-task-requires c κs = search needs
 
--- src/test.rt:102:15
 object-fits-requires : tie.Need-object-fits-requires Inv-loop μ-loop
 object-fits-requires c κs = search needs
 
--- src/test.rt:103:9
 add-o : tie.Need-add-o Inv-loop μ-loop
 add-o c = search needs
 
--- src/test.rt:99:5
 loop-less : tie.Need-loop-less Inv-loop μ-loop
 loop-less c = search needs
 
--- src/test.rt:99:5
 loop-again : tie.Need-loop-again Inv-loop μ-loop
 loop-again c = let h = c .before .before .before in
     let a = h .before .args in
     (omega arith, rw (c .object-fits .ensures, c .before .of-task .ensures) (gather (λ o. objectFits o (at (a .t2) o) (at (a .t3) o) (at (a .base) (at (a .t3) o))) (h .loop .o) (h .loop .fit) (h .loop .inv .1)))
 
--- src/test.rt:94:1
 returns : tie.Need-returns Inv-loop μ-loop
 unfolding objectsFit
 returns c = let h = c .before in

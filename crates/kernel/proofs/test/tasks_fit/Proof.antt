@@ -1,18 +1,14 @@
-use Prim.Native.Nat.{ℕ, _+_, _-_, _≤_, _<_, _^_}
-use mathlib.Core.Path.{_≡_, refl, sym, ap, _∙_}
+-- `tasks_fit` meets its contract. The invariant: the tasks passed fit. Assumes nothing.
+use Prim.Native.Nat.{_-_, _≤_}
+use mathlib.Core.Path.{_≡_, refl, ap, _∙_}
 use native.Mathlib.Omega.{arith}
-use lib.ListN.{length, getD, take, drop, set, replicate, length-set, length-replicate}
 use Rattle.kernel.proofs.Loops.{gather}
 use Rattle.kernel.specs.Test.{tasksFit, taskFits}
 use Rattle.rules.specs.Line.{at, all-below}
-use mathlib.Core.Bool.{Bool, true, false, _&&_, _||_, not, cond}
-use lib.Dec.{eqb, leb, ltb}
+use mathlib.Core.Bool.{Bool, _&&_}
 use borrow.Author.Needs.{needs}
 use Rattle.kernel.proofs.test.tasks_fit.Statement.{statement}
 use Rattle.kernel.proofs.test.tasks_fit.Tie as tie
-use Rattle.kernel.proofs.test.tasks_fit.Reads as reads
-use Rattle.kernel.proofs.test.tasks_fit.Lts as lts
-use Rattle.kernel.proofs.test.task_fits.Reads as task-fits-reads
 
 abbrev Inv-loop : tie.InvT-loop
 Inv-loop base place held way fit₀ t₀ fit t = (t ≤ 32) × (fit ≡ all-below t (λ t. taskFits (at base t) (at place t) (at held t) (at way t)))
@@ -20,46 +16,36 @@ Inv-loop base place held way fit₀ t₀ fit t = (t ≤ 32) × (fit ≡ all-belo
 abbrev μ-loop : tie.MeasureT-loop
 μ-loop base place held way fit₀ t₀ fit t = 32 - t
 
--- src/test.rt:33:5
 loop-holds : tie.Need-loop-holds Inv-loop μ-loop
 unfolding all-below
 loop-holds c = (omega arith, refl)
 
--- src/test.rt:34:25
 array-read-task-fits : tie.Need-array-read-task-fits Inv-loop μ-loop
 array-read-task-fits c = search needs
 
--- src/test.rt:34:34
 array-read-task-fits-2 : tie.Need-array-read-task-fits-2 Inv-loop μ-loop
 array-read-task-fits-2 c = search needs
 
--- src/test.rt:34:44
 array-read-task-fits-3 : tie.Need-array-read-task-fits-3 Inv-loop μ-loop
 array-read-task-fits-3 c = search needs
 
--- src/test.rt:34:53
 array-read-task-fits-4 : tie.Need-array-read-task-fits-4 Inv-loop μ-loop
 array-read-task-fits-4 c = search needs
 
--- src/test.rt:34:15
 task-fits-requires : tie.Need-task-fits-requires Inv-loop μ-loop
 task-fits-requires c κs = search needs
 
--- src/test.rt:35:9
 add-t : tie.Need-add-t Inv-loop μ-loop
 add-t c = search needs
 
--- src/test.rt:33:5
 loop-less : tie.Need-loop-less Inv-loop μ-loop
 loop-less c = search needs
 
--- src/test.rt:33:5
 loop-again : tie.Need-loop-again Inv-loop μ-loop
 loop-again c = let h = c .before .before in
     let a = h .before .args in
     (omega arith, ap (λ (x : Bool). x && h .loop .fit) (c .task-fits .ensures) ∙ gather (λ t. taskFits (at (a .t1) t) (at (a .t2) t) (at (a .t3) t) (at (a .t4) t)) (h .loop .t) (h .loop .fit) (h .loop .inv .1))
 
--- src/test.rt:28:1
 returns : tie.Need-returns Inv-loop μ-loop
 unfolding tasksFit
 returns c = let h = c .before in

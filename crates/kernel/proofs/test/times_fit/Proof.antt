@@ -1,17 +1,15 @@
-use Prim.Native.Nat.{ℕ, _+_, _-_, _≤_, _<_, _^_}
-use mathlib.Core.Path.{_≡_, refl, sym, ap, _∙_}
+-- `times_fit` meets its contract. The invariant: the times passed fit. Assumes nothing.
+use Prim.Native.Nat.{_-_, _≤_}
+use mathlib.Core.Path.{_≡_, refl}
 use native.Mathlib.Omega.{arith}
-use lib.ListN.{length, getD, take, drop, set, replicate, length-set, length-replicate}
 use Rattle.kernel.proofs.Loops.{gather}
 use Rattle.kernel.specs.Test.{timesFit}
 use Rattle.rules.specs.Line.{at, all-below}
-use mathlib.Core.Bool.{Bool, true, false, _&&_, _||_, not, cond}
-use lib.Dec.{eqb, leb, ltb}
+use mathlib.Core.Bool.{_||_}
+use lib.Dec.{eqb}
 use borrow.Author.Needs.{needs}
 use Rattle.kernel.proofs.test.times_fit.Statement.{statement}
 use Rattle.kernel.proofs.test.times_fit.Tie as tie
-use Rattle.kernel.proofs.test.times_fit.Reads as reads
-use Rattle.kernel.proofs.test.times_fit.Lts as lts
 
 abbrev Inv-loop : tie.InvT-loop
 Inv-loop until place fit₀ t₀ fit t = (t ≤ 32) × (fit ≡ all-below t (λ t. eqb (at until t) 0 || eqb (at place t) 2))
@@ -19,38 +17,30 @@ Inv-loop until place fit₀ t₀ fit t = (t ≤ 32) × (fit ≡ all-below t (λ 
 abbrev μ-loop : tie.MeasureT-loop
 μ-loop until place fit₀ t₀ fit t = 32 - t
 
--- src/test.rt:46:5
 loop-holds : tie.Need-loop-holds Inv-loop μ-loop
 unfolding all-below
 loop-holds c = (omega arith, refl)
 
--- src/test.rt:47:17
 mul-fit : tie.Need-mul-fit Inv-loop μ-loop
 mul-fit c = search needs
 
--- src/test.rt:47:17
 element-copy-out-fit : tie.Need-element-copy-out-fit Inv-loop μ-loop
 element-copy-out-fit c = search needs
 
--- src/test.rt:47:35
 array-read-fit : tie.Need-array-read-fit Inv-loop μ-loop
 array-read-fit c = search needs
 
--- src/test.rt:48:9
 add-t : tie.Need-add-t Inv-loop μ-loop
 add-t c = search needs
 
--- src/test.rt:46:5
 loop-less : tie.Need-loop-less Inv-loop μ-loop
 loop-less c = search needs
 
--- src/test.rt:46:5
 loop-again : tie.Need-loop-again Inv-loop μ-loop
 loop-again c = let h = c .before .before in
     let a = h .before .args in
     (omega arith, gather (λ t. eqb (at (a .until .now) t) 0 || eqb (at (a .t2) t) 2) (h .loop .t) (h .loop .fit) (h .loop .inv .1))
 
--- src/test.rt:41:1
 returns : tie.Need-returns Inv-loop μ-loop
 unfolding timesFit
 returns c = let h = c .before in

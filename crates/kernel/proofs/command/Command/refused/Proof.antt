@@ -1,31 +1,23 @@
-use mathlib.Core.Path.{_≡_, refl, sym, ap, _∙_}
-use mathlib.Core.Bool.{Bool, true, false, _&&_, _||_, not, cond}
-use Prim.Native.Nat.{ℕ, _+_, _-_, _≤_, _<_, _^_}
+-- `Command::refused` meets its contract: Range first, then the tests behind it. Assumes nothing.
+use mathlib.Core.Path.{ap, _∙_}
+use mathlib.Core.Bool.{Bool, not, cond}
+use Prim.Native.Nat.{ℕ, _-_}
 use Rattle.rules.specs.Refusals.{formed}
 use Rattle.kernel.specs.Public.{said}
 use Rattle.kernel.specs.Step.{refusedOf}
 use borrow.Author.Needs.{needs}
 use Rattle.kernel.proofs.command.Command.refused.Statement.{statement}
 use Rattle.kernel.proofs.command.Command.refused.Tie as tie
-use Rattle.kernel.proofs.command.Command.refused.Reads as reads
-use Rattle.kernel.proofs.command.Command.refused.Lts as lts
-use Rattle.kernel.proofs.command.Command.formed.Reads as formed-reads
-use Rattle.kernel.proofs.command.Command.refused_formed.Reads as refused-formed-reads
-use Rattle.line.proofs.choose.Reads as choose-reads
 
--- src/command.rt:98:13
 refused-formed-requires : tie.Need-refused-formed-requires
 refused-formed-requires c κs = search needs
 
--- src/command.rt:99:23
 formed-requires : tie.Need-formed-requires
 formed-requires c κs = search needs
 
--- src/command.rt:99:9
 choose-requires : tie.Need-choose-requires
 choose-requires c κs = search needs
 
--- src/command.rt:95:5
 returns : tie.Need-returns
 unfolding refusedOf
 returns c = let s = c .before .before .before .args .self in

@@ -1,0 +1,161 @@
+-- What is promised of the draw that is shipped: `drawnOf k seed p` is what `draw` answers (its contract is the equation), and `stepOn k c`
+-- what Kernel::step does. Each promise in plain words, and then in antt. Assumes nothing.
+use Prim.Native.Nat.{ℕ, zero, suc, _-_, _≤_, _<_, _^_}
+use native.Mathlib.Omega.{arith}
+use mathlib.Core.Path.{_≡_, refl, sym, ap, _∙_}
+use mathlib.Core.Logic.{_≢_}
+use mathlib.Core.Bool.{Bool, true, false, cond, not, _&&_}
+use mathlib.Core.List.{List, [], _∷_}
+use lib.Dec.{eqb}
+use borrow.Author.Tests.{eqb-true, eqb-false, ne-eqb, eq-eqb}
+use Rattle.rules.specs.Line.{at}
+use Rattle.rules.specs.Machine.{Machine}
+use Rattle.rules.specs.Machine as rules
+use Rattle.rules.specs.Table.{Effect, nothing, creates, declares, begins, moves, effect, carry}
+use Rattle.rules.specs.Refusals.{refusal, first-number}
+use Rattle.rules.specs.Sound.{sound}
+use Rattle.rules.specs.Run.{next, answer}
+use Rattle.rules.proofs.Sounds.{Sound, tests-sound}
+use Rattle.rules.proofs.Step.{Step, kept, carried, step, moved-started, next-sound}
+use Rattle.kernel.specs.declared.Kernel.{Kernel}
+use Rattle.kernel.specs.declared.command.Command.{Command}
+use Rattle.kernel.specs.View.{view, encode}
+use Rattle.kernel.specs.Public.{isSound, stepOf, said}
+use Rattle.kernel.proofs.Round.{view-encode}
+use Rattle.kernel.proofs.Written.{stands, step-sound}
+use Rattle.generator.specs.declared.Profile.{Profile}
+use Rattle.generator.specs.declared.Drawn.{Drawn}
+use Rattle.generator.specs.Xorshift.{draw}
+use Rattle.generator.specs.Draw as draws
+use Rattle.generator.specs.Draw.{good-profile, no-command, draw-refusal, drawn}
+use Rattle.generator.specs.Public.{profileOf, toldCommand, toldDrawn, refusedOf, drawnIn, drawnOf, stepOn, drawsOf}
+use Rattle.generator.proofs.Theorems.{Fine, drawn-is-fine, seed-left, refused-draw, seed-lives}
+
+-- The two ways of a draw: of a sound state it is the draw of the machine; any other is refused with 1.
+data Tested (k : Kernel) (seed : ℕ) (p : Profile) : Type 0 where
+  tested : isSound k ≡ true → drawnOf k seed p ≡ toldDrawn (drawn (view k) seed (profileOf p)) → Tested k seed p
+  unsound : isSound k ≡ false → drawnOf k seed p ≡ refusedOf 1 seed → Tested k seed p
+
+ways : (k : Kernel) (seed : ℕ) (p : Profile) → Tested k seed p
+unfolding drawnOf drawnIn
+ways k seed p = go (isSound k) refl
+  where
+    go : (b : Bool) → isSound k ≡ b → Tested k seed p
+    go true e = tested e (rw e)
+    go false e = unsound e (rw e)
+
+code-same : {d e : Drawn} → d ≡ e → d .code ≡ e .code
+code-same q = ap (λ (d : Drawn). d .code) q
+
+machine-sound : (k : Kernel) → isSound k ≡ true → sound (view k) ≡ true
+machine-sound k e = tests-sound (view k) .found (stands k e .machine)
+
+-- ## The checks, in their order
+drawn-code : (m : Machine) (seed : ℕ) (p : draws.Profile) → drawn m seed p .code ≡ draw-refusal m seed p
+unfolding drawn
+drawn-code m seed p = go (eqb (draw-refusal m seed p) 0) refl _ _ refl refl
+  where
+    go : (b : Bool) → eqb (draw-refusal m seed p) 0 ≡ b → (x y : draws.Drawn) → x .code ≡ 0 → y .code ≡ draw-refusal m seed p → cond b x y .code ≡ draw-refusal m seed p
+    go true e x y f g = f ∙ sym (eqb-true _ _ e)
+    go false e x y f g = g
+
+-- A draw: 1, 17, 18, 2, and the first that holds is answered.
+-- Rules out: 18 tested before 17; a seed looked at in a forged state.
+pub code-in-order : (k : Kernel) (seed : ℕ) (p : Profile)
+    → drawnOf k seed p .code ≡ first-number ((not (isSound k), 1) ∷ (eqb seed 0, 17) ∷ (not (good-profile (profileOf p)), 18) ∷ (not (k .started), 2) ∷ [])
+unfolding draw-refusal view
+code-in-order k seed p = go (ways k seed p)
+  where
+    go : Tested k seed p → drawnOf k seed p .code ≡ first-number ((not (isSound k), 1) ∷ (eqb seed 0, 17) ∷ (not (good-profile (profileOf p)), 18) ∷ (not (k .started), 2) ∷ [])
+    go (tested s q) = rw (q, s) (drawn-code (view k) seed (profileOf p))
+    go (unsound s q) = rw (q, s)
+
+-- ## Every drawn command is accepted
+-- Unless the draw itself is refused, the kernel's step accepts what is drawn: from every state, seed and profile.
+-- Rules out: a delay drawn while inside an object, an entry with barrier 0 on an object with a waiter, a closing command of the wrong way.
+-- Leaves: a generator that always says wake (proofs/Theorems, each-kind-drawn), one that refuses every draw (code-in-order).
+pub drawn-accepted : (k : Kernel) (seed : ℕ) (p : Profile) → drawnOf k seed p .code ≡ 0 → stepOn k (drawnOf k seed p .command) .answer .code ≡ 0
+unfolding stepOf answer
+drawn-accepted k seed p e = go (ways k seed p)
+  where
+    go : Tested k seed p → stepOn k (drawnOf k seed p .command) .answer .code ≡ 0
+    go (tested s q) = rw (q, s) (drawn-is-fine (view k) seed (profileOf p) (machine-sound k s) (sym (code-same q) ∙ e) .accepted)
+    go (unsound s q) = absurd (omega (arith, code-same q))
+
+-- It is of an op 4..11, and that kind's weight is not 0.
+pub drawn-has-weight : (k : Kernel) (seed : ℕ) (p : Profile) → drawnOf k seed p .code ≡ 0
+    → (4 ≤ drawnOf k seed p .command .op) × (drawnOf k seed p .command .op ≤ 11) × (1 ≤ at (p .weights) (drawnOf k seed p .command .op - 4))
+drawn-has-weight k seed p e = go (ways k seed p)
+  where
+    go : Tested k seed p → (4 ≤ drawnOf k seed p .command .op) × (drawnOf k seed p .command .op ≤ 11) × (1 ≤ at (p .weights) (drawnOf k seed p .command .op - 4))
+    go (tested s q) = let f = drawn-is-fine (view k) seed (profileOf p) (machine-sound k s) (sym (code-same q) ∙ e) in rw q (f .op .0, f .op .1, f .weight)
+    go (unsound s q) = absurd (omega (arith, code-same q))
+
+-- ## The seed
+-- The seed left behind is the third draw; a refused draw leaves the seed, and answers op 0 with zero operands.
+-- Rules out: fewer draws where an operand is not needed, and a refused draw that advances the seed.
+pub seed-left-behind : (k : Kernel) (seed : ℕ) (p : Profile) → drawnOf k seed p .code ≡ 0 → drawnOf k seed p .seed ≡ draw (draw (draw seed))
+seed-left-behind k seed p e = go (ways k seed p)
+  where
+    go : Tested k seed p → drawnOf k seed p .seed ≡ draw (draw (draw seed))
+    go (tested s q) = rw q (seed-left (view k) seed (profileOf p) (sym (code-same q) ∙ e))
+    go (unsound s q) = absurd (omega (arith, code-same q))
+
+pub refused-leaves : (k : Kernel) (seed : ℕ) (p : Profile) → drawnOf k seed p .code ≢ 0 → drawnOf k seed p ≡ refusedOf (drawnOf k seed p .code) seed
+refused-leaves k seed p n = go (ways k seed p)
+  where
+    go : Tested k seed p → drawnOf k seed p ≡ refusedOf (drawnOf k seed p .code) seed
+    go (tested s q) = let w = refused-draw (view k) seed (profileOf p) (λ z. n (code-same q ∙ z)) in rw q (rw (w .0, w .1))
+    go (unsound s q) = rw q
+
+-- A seed of 32 bits that is not 0 never dies: what is left behind is again such a seed.
+pub seed-never-dies : (k : Kernel) (seed : ℕ) (p : Profile) → seed < 2 ^ 32 → seed ≢ 0 → (drawnOf k seed p .seed < 2 ^ 32) × (drawnOf k seed p .seed ≢ 0)
+seed-never-dies k seed p h n = go (ways k seed p)
+  where
+    go : Tested k seed p → (drawnOf k seed p .seed < 2 ^ 32) × (drawnOf k seed p .seed ≢ 0)
+    go (tested s q) = rw q (seed-lives (view k) seed (profileOf p) h n)
+    go (unsound s q) = rw q (h, n)
+
+-- ## A run is a seed
+-- What a run of draws asks of the state and the seed where it begins, and has again behind each draw and its step.
+pub record Going (k : Kernel) (seed : ℕ) : Type 0 where
+  pub sound : isSound k ≡ true
+  pub on : k .started ≡ true
+  pub small : seed < 2 ^ 32
+  pub alive : seed ≢ 0
+
+going-draw : (k : Kernel) (seed : ℕ) (p : Profile) → Going k seed → good-profile (profileOf p) ≡ true → drawnOf k seed p .code ≡ 0
+going-draw k seed p g good = code-in-order k seed p ∙ rw (g .sound, ne-eqb seed 0 (g .alive), good, g .on)
+
+stays-on : (m : Machine) → m .started ≡ true → (e : Effect) → carry m e .started ≡ true
+unfolding carry
+stays-on m on nothing = on
+stays-on m on (creates t p) = on
+stays-on m on (declares o p) = on
+stays-on m on begins = refl
+stays-on m on (moves out rel n) = moved-started out rel m ∙ on
+
+next-on : (m : Machine) → Sound m → m .started ≡ true → (c : rules.Command) → next m c .started ≡ true
+next-on m s on c = go (step m s c)
+  where
+    go : Step m c → next m c .started ≡ true
+    go (kept e f w) = rw e on
+    go (carried e f w g) = rw e (stays-on m on (effect m c))
+
+step-on : (k : Kernel) → isSound k ≡ true → k .started ≡ true → (c : Command) → stepOn k c .next .started ≡ true
+unfolding stepOf encode view
+step-on k s on c = rw s (next-on (view k) (stands k s .machine) on (said c))
+
+going-on : (k : Kernel) (seed : ℕ) (p : Profile) → Going k seed → Going (stepOn k (drawnOf k seed p .command) .next) (drawnOf k seed p .seed)
+going-on k seed p g =
+    let c = drawnOf k seed p .command in
+    let w = seed-never-dies k seed p (g .small) (g .alive) in
+    record { sound = step-sound k (said c) (g .sound); on = step-on k (g .sound) (g .on) c; small = w .0; alive = w .1 }
+
+-- From a sound started state, a seed 1..2^32-1 and a valid profile, draws go on for ever: behind any number of them, each with its step,
+-- the next draw is accepted and the step accepts what it draws. So no run of draws meets 1, 17, 18 or 2 in its middle.
+pub draws-go-on : (n : ℕ) (k : Kernel) (seed : ℕ) (p : Profile) → Going k seed → good-profile (profileOf p) ≡ true
+    → let e = drawsOf n k seed p in (drawnOf (e .0) (e .1) p .code ≡ 0) × (stepOn (e .0) (drawnOf (e .0) (e .1) p .command) .answer .code ≡ 0)
+unfolding drawsOf
+draws-go-on zero k seed p g good = let e = going-draw k seed p g good in (e, drawn-accepted k seed p e)
+draws-go-on (suc n) k seed p g good = draws-go-on n (stepOn k (drawnOf k seed p .command) .next) (drawnOf k seed p .seed) p (going-on k seed p g) good

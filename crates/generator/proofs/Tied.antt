@@ -1,0 +1,162 @@
+-- The tables tied to the machine: what a draw looks at, the choice by an index, and the two ways of a draw. Assumes nothing.
+use Prim.Native.Nat.{ℕ, zero, suc, _+_, _-_, _%_, _≤_, _<_}
+use native.Mathlib.Omega.{arith}
+use mathlib.Core.Path.{_≡_, refl, sym, ap, subst, _∙_}
+use mathlib.Core.Logic.{_≢_}
+use mathlib.Core.Bool.{Bool, true, false, cond, not, _&&_}
+use mathlib.Core.List.{List, [], _∷_, map}
+use lib.Dec.{eqb, leb, ltb}
+use lib.ListN.{length, getD, drop, drop-of-length-le}
+use lib.Seq.{drop-cons}
+use borrow.Author.Tests.{eqb-true, ltb-true, ltb-false, lt-ltb, le-ltb, ne-eqb, eq-eqb}
+use Rattle.rules.specs.Line.{at, empty, front, rest}
+use Rattle.rules.specs.Machine.{Machine}
+use Rattle.rules.specs.Machine as rules
+use Rattle.kernel.specs.declared.Kernel.{Kernel}
+use Rattle.kernel.specs.declared.command.Command.{Command}
+use Rattle.kernel.specs.View.{view, with-idle, nobody-or}
+use Rattle.generator.specs.declared.Profile as given
+use Rattle.generator.specs.declared.Sight.{Sight}
+use Rattle.generator.specs.declared.Drawn.{Drawn}
+use Rattle.generator.specs.Xorshift.{draw}
+use Rattle.generator.specs.Menu.{sift, objects, menu, span-fits, free-runner}
+use Rattle.generator.specs.Draw.{Profile, weigh, total, choose, chosen, no-command, draw-refusal, drawn}
+use Rattle.generator.specs.Public.{profileOf, toldCommand, refusedOf, drawnIn}
+use Rattle.generator.specs.Tables.{eligibleIn, sightOf, worthsOf, sumOf, indexOf, opsOf, firstsOf, secondsOf, valuesOf, commandAt, refusalOf}
+
+-- ## What a draw looks at
+-- The runner is what stands first in the table of the ready line, 0 for idle.
+runner-read : (l : List ℕ) → front 0 (with-idle l) ≡ at l 0
+runner-read [] = refl
+runner-read (x ∷ l) = go (eqb x 0) refl
+  where
+    go : (b : Bool) → eqb x 0 ≡ b → front 0 (cond b (0 ∷ []) (x ∷ with-idle l)) ≡ x
+    go true e = sym (eqb-true x 0 e)
+    go false e = refl
+
+-- Nobody waits on an object whose waiter is 0.
+quiet-read : (l : List ℕ) (o : ℕ) → empty (getD (map nobody-or l) o []) ≡ eqb (at l o) 0
+quiet-read [] o = refl
+quiet-read (w ∷ l) zero = go (eqb w 0)
+  where
+    go : (b : Bool) → empty (cond b [] (w ∷ [])) ≡ b
+    go true = refl
+    go false = refl
+quiet-read (w ∷ l) (suc o) = quiet-read l o
+
+some-read : (l : List ℕ) → not (empty l) ≡ not (eqb (length l) 0)
+some-read [] = refl
+some-read (x ∷ l) = rw (ne-eqb (suc (length l)) 0 (λ e. omega arith))
+
+-- the eligible objects by the tables, and what is seen by them
+abbrev runner-in : Kernel → ℕ
+runner-in k = at (k .ready) 0
+
+abbrev pub eligibles-in : Kernel → List ℕ
+eligibles-in k = sift (eligibleIn (k .ceiling) (k .held) (at (k .base) (runner-in k))) objects
+
+abbrev pub sightIn : Kernel → ℕ → ℕ → ℕ → Bool → Sight
+sightIn k d2 count object room =
+    let h = at (k .held) (runner-in k) in
+    record {
+      free = not (eqb (runner-in k) 0) && eqb h 0;
+      opened = not (eqb h 0) && eqb (at (k .way) (runner-in k)) 1;
+      entered = not (eqb h 0) && eqb (at (k .way) (runner-in k)) 2;
+      hand = h;
+      some = not (eqb count 0);
+      object = object;
+      quiet = eqb (at (k .waiter) object) 0;
+      room = room;
+    }
+
+pub seen : (k : Kernel) (span d2 : ℕ) → sightOf (view k) span d2 ≡ sightIn k d2 (length (eligibles-in k)) (getD (eligibles-in k) (d2 % length (eligibles-in k)) 0) (span-fits (view k) span)
+unfolding sightOf view
+seen k span d2 = rw (runner-read (k .ready), quiet-read (k .waiter), some-read)
+
+-- ## The choice by an index
+abbrev weights-of : List (ℕ × rules.Command) → List ℕ
+weights-of [] = []
+weights-of (x ∷ l) = x .0 ∷ weights-of l
+
+abbrev commands-of : List (ℕ × rules.Command) → List rules.Command
+commands-of [] = []
+commands-of (x ∷ l) = x .1 ∷ commands-of l
+
+total-sum : (l : List (ℕ × rules.Command)) → total l ≡ sumOf (weights-of l)
+unfolding sumOf
+total-sum [] = refl
+total-sum (x ∷ l) = ap (λ (n : ℕ). x .0 + n) (total-sum l)
+
+-- The first whose running sum exceeds d stands at the index of the first weight that d, less the weights before it, is below.
+choose-at : (l : List (ℕ × rules.Command)) (e sum d : ℕ) → e ≡ sum + d → choose e sum l ≡ getD (commands-of l) (indexOf d (weights-of l)) no-command
+unfolding indexOf
+choose-at [] e sum d h = refl
+choose-at (x ∷ l) e sum d h = go (ltb d (x .0)) refl (choose-at l e (sum + x .0) (d - x .0))
+  where
+    go : (b : Bool) → ltb d (x .0) ≡ b → (e ≡ sum + x .0 + (d - x .0) → choose e (sum + x .0) l ≡ getD (commands-of l) (indexOf (d - x .0) (weights-of l)) no-command)
+        → cond (ltb e (sum + x .0)) (x .1) (choose e (sum + x .0) l) ≡ getD (x .1 ∷ commands-of l) (cond b 0 (suc (indexOf (d - x .0) (weights-of l)))) no-command
+    go true q r = let w : d < x .0 = ltb-true _ _ q in rw (lt-ltb e (sum + x .0) (omega arith))
+    go false q r = let w : x .0 ≤ d = ltb-false _ _ q in rw (le-ltb e (sum + x .0) (omega arith)) (r (omega arith))
+
+-- a command of a list, by its columns
+column : (f : rules.Command → ℕ) → f no-command ≡ 0 → (l : List rules.Command) (i : ℕ) → f (getD l i no-command) ≡ at (map f l) i
+column f e [] i = e
+column f e (c ∷ l) zero = refl
+column f e (c ∷ l) (suc i) = column f e l i
+
+columns : (l : List rules.Command) (i : ℕ)
+    → toldCommand (getD l i no-command) ≡ record { op = at (map (λ c. c .op) l) i; a = at (map (λ c. c .a) l) i; b = at (map (λ c. c .b) l) i; value = at (map (λ c. c .value) l) i }
+columns l i = rw (column (λ c. c .op) refl l i, column (λ c. c .a) refl l i, column (λ c. c .b) refl l i, column (λ c. c .value) refl l i)
+
+-- A delay without room weighs nothing, so it is not chosen and its time does not matter.
+no-time : (free room : Bool) (w v d : ℕ) (ws vs : List ℕ) → at (v ∷ vs) (indexOf d (cond (free && room) w 0 ∷ ws)) ≡ at (cond room v 0 ∷ vs) (indexOf d (cond (free && room) w 0 ∷ ws))
+unfolding indexOf
+no-time free true w v d ws vs = refl
+no-time true false w v d ws vs = rw (le-ltb d 0 (omega arith))
+no-time false false w v d ws vs = rw (le-ltb d 0 (omega arith))
+
+-- the index of the kind that the first draw chooses
+abbrev pub kindOf : Sight → List ℕ → ℕ → ℕ
+kindOf s w d1 = indexOf (d1 % sumOf (worthsOf s w)) (worthsOf s w)
+
+module _ (m : Machine) (span d1 d2 d3 : ℕ) where
+  abbrev told-of : List ℕ → Type 0
+  told-of w = toldCommand (chosen m (record { span = span; weights = w }) d1 d2 d3) ≡ commandAt (sightOf m span d2) (m .clock) span d2 d3 (kindOf (sightOf m span d2) w d1)
+
+  chosen-eight : (w0 w1 w2 w3 w4 w5 w6 w7 : ℕ) → told-of (w0 ∷ w1 ∷ w2 ∷ w3 ∷ w4 ∷ w5 ∷ w6 ∷ w7 ∷ [])
+  unfolding chosen menu sightOf worthsOf commandAt
+  chosen-eight w0 w1 w2 w3 w4 w5 w6 w7 =
+      let w = w0 ∷ w1 ∷ w2 ∷ w3 ∷ w4 ∷ w5 ∷ w6 ∷ w7 ∷ [] in
+      let s = sightOf m span d2 in
+      let l = weigh (menu m span d2 d3) w in
+      let i = kindOf s w d1 in
+      ap toldCommand (choose-at l (d1 % total l) 0 (d1 % total l) (omega arith)) ∙ (ap (λ (n : ℕ). toldCommand (getD (commands-of l) (indexOf (d1 % n) (weights-of l)) no-command)) (total-sum l)
+      ∙ (columns (commands-of l) i
+      ∙ ap (λ (v : ℕ). record { op = at opsOf i; a = at (firstsOf s) i; b = at (secondsOf s d3) i; value = v })
+      (no-time (free-runner m) (span-fits m span) w0 (m .clock + d2 % (span + 1)) (d1 % sumOf (worthsOf s w)) (rest (worthsOf s w)) (rest (valuesOf (m .clock) span d2)))))
+
+-- A list of eight is its entries.
+abbrev spell : List ℕ → ℕ → ℕ → List ℕ
+spell l zero i = []
+spell l (suc n) i = at l i ∷ spell l n (suc i)
+
+spelled : (l : List ℕ) (n i : ℕ) → i + n ≡ length l → drop i l ≡ spell l n i
+spelled l zero i h = let k : length l ≤ i = omega arith in drop-of-length-le l k
+spelled l (suc n) i h = let k : i < length l = omega arith in drop-cons l i 0 k ∙ ap (λ (r : List ℕ). at l i ∷ r) (spelled l n (suc i) (omega arith))
+
+pub chosen-is : (m : Machine) (p : Profile) (d1 d2 d3 : ℕ) → length (p .weights) ≡ 8
+    → toldCommand (chosen m p d1 d2 d3) ≡ commandAt (sightOf m (p .span) d2) (m .clock) (p .span) d2 d3 (kindOf (sightOf m (p .span) d2) (p .weights) d1)
+chosen-is m p d1 d2 d3 h =
+    let w = p .weights in
+    subst (told-of m (p .span) d1 d2 d3) (sym (spelled w 8 0 (omega arith))) (chosen-eight m (p .span) d1 d2 d3 (at w 0) (at w 1) (at w 2) (at w 3) (at w 4) (at w 5) (at w 6) (at w 7))
+
+-- ## The two ways of a draw
+module _ (k : Kernel) (seed : ℕ) (p : given.Profile) where
+  pub draw-refused : refusalOf (k .started) seed p ≢ 0 → drawnIn k seed p ≡ refusedOf (refusalOf (k .started) seed p) seed
+  unfolding drawnIn drawn draw-refusal view
+  draw-refused h = rw (ne-eqb (refusalOf (k .started) seed p) 0 h)
+
+  pub draw-made : refusalOf (k .started) seed p ≡ 0
+      → drawnIn k seed p ≡ record { code = 0; command = toldCommand (chosen (view k) (profileOf p) (draw seed) (draw (draw seed)) (draw (draw (draw seed)))); seed = draw (draw (draw seed)) }
+  unfolding drawnIn drawn draw-refusal view
+  draw-made h = rw (eq-eqb (refusalOf (k .started) seed p) 0 h)

@@ -1,0 +1,54 @@
+-- What the generator's functions answer, as the definitions over document 01's machine say it.
+use Prim.Native.Nat.{ℕ, zero, suc}
+use mathlib.Core.Path.{_≡_}
+use mathlib.Core.Bool.{cond}
+use Rattle.rules.specs.Machine as rules
+use Rattle.kernel.specs.declared.Kernel.{Kernel}
+use Rattle.kernel.specs.declared.Stepped.{Stepped}
+use Rattle.kernel.specs.declared.command.Command.{Command}
+use Rattle.kernel.specs.View.{view}
+use Rattle.kernel.specs.Public.{isSound, said, stepOf}
+use Rattle.generator.specs.declared.Profile.{Profile}
+use Rattle.generator.specs.declared.Drawn.{Drawn}
+use Rattle.generator.specs.declared.Generator.{Generator}
+use Rattle.generator.specs.Xorshift as xorshift
+use Rattle.generator.specs.Draw as draw
+
+-- a profile of 32-bit numbers, as the definitions have it; a command and the answer of a draw, in their numbers
+abbrev pub profileOf : Profile → draw.Profile
+profileOf p = record { span = p .span; weights = p .weights }
+
+abbrev pub toldCommand : rules.Command → Command
+toldCommand c = record { op = c .op; a = c .a; b = c .b; value = c .value }
+
+abbrev pub toldDrawn : draw.Drawn → Drawn
+toldDrawn d = record { code = d .code; command = toldCommand (d .command); seed = d .seed }
+
+-- A refused draw answers op 0 with zero operands and the same seed.
+abbrev pub refusedOf : ℕ → ℕ → Drawn
+refusedOf code seed = record { code = code; command = toldCommand draw.no-command; seed = seed }
+
+-- The draw of the machine that the tables stand for, with its checks 17, 18, 2.
+unfoldable pub drawnIn : Kernel → ℕ → Profile → Drawn
+drawnIn k seed p = toldDrawn (draw.drawn (view k) seed (profileOf p))
+
+-- A draw: 1 comes first, and a state that is not sound is answered so.
+unfoldable pub drawnOf : Kernel → ℕ → Profile → Drawn
+drawnOf k seed p = cond (isSound k) (drawnIn k seed p) (refusedOf 1 seed)
+
+-- the kernel's step on a drawn command
+abbrev pub stepOn : Kernel → Command → Stepped
+stepOn k c = stepOf k (said c)
+
+-- n draws, each with its step: the state and the seed behind them.
+unfoldable pub drawsOf : ℕ → Kernel → ℕ → Profile → Kernel × ℕ
+drawsOf zero k seed p = (k, seed)
+drawsOf (suc n) k seed p = let d = drawnOf k seed p in drawsOf n (stepOn k (d .command) .next) (d .seed) p
+
+-- The lent form: the number drawn and the generator left behind;
+abbrev pub Advances : Generator → ℕ → Generator → Type 0
+Advances g r left = (r ≡ xorshift.draw (g .seed)) × (left .seed ≡ xorshift.draw (g .seed))
+
+-- the answer of a draw and the generator left behind, whose seed is that of the answer.
+abbrev pub DrawsWith : Generator → Kernel → Profile → Drawn → Generator → Type 0
+DrawsWith g k p r left = (r ≡ drawnOf k (g .seed) p) × (left .seed ≡ drawnOf k (g .seed) p .seed)
