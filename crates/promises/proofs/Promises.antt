@@ -6,7 +6,7 @@ use Prim.Native.Nat.{ℕ, zero, suc, _-_, _≤_, _<_}
 use native.Mathlib.Omega.{arith}
 use mathlib.Core.Path.{_≡_, refl, sym, ap, _∙_, subst}
 use mathlib.Core.Logic.{_≢_, _↔_}
-use mathlib.Core.Bool.{Bool, true, false}
+use mathlib.Core.Bool.{true, false}
 use mathlib.Core.List.{List, map}
 use Rattle.rules.specs.Line.{at}
 use Rattle.rules.specs.Machine.{Machine, fresh, running}
@@ -158,15 +158,13 @@ release-promise before c = rw (run-from-fresh before, step-on (behind before) (b
     (w .0, w .1, lower-on (next (behind before) (said c)) (next-sound (behind before) (behind-sound before) (said c)) (released (behind before) (said c)) (w .0) (w .1) (w .2)))
 
 -- ## No second answer
--- Each contract of the kernel is one equation, so whatever else meets it is the same answer: there is nothing left to choose.
-pub one-fresh : (j k : Kernel) → j ≡ freshOf → k ≡ freshOf → j ≡ k
-one-fresh j k a b = a ∙ sym b
-
-pub one-verdict : (k : Kernel) (a b : Bool) → a ≡ isSound k → b ≡ isSound k → a ≡ b
-one-verdict k a b x y = x ∙ sym y
+-- A contract that is one equation leaves nothing to choose: whatever else meets it is the same answer. Of the kernel's functions each is
+-- one, and so is each of `line`'s.
+pub no-second-answer : {A : Type 0} (said a b : A) → a ≡ said → b ≡ said → a ≡ b
+no-second-answer said a b x y = x ∙ sym y
 
 pub one-step : (k : Kernel) (c : Command) (a b : Stepped) → a ≡ stepped k c → b ≡ stepped k c → a ≡ b
-one-step k c a b x y = x ∙ sym y
+one-step k c a b x y = no-second-answer (stepped k c) a b x y
 
 pub one-count : (k : Kernel) (t : ℕ) (a b : Left) → a ≡ leftOf k t → b ≡ leftOf k t → a ≡ b
-one-count k t a b x y = x ∙ sym y
+one-count k t a b x y = no-second-answer (leftOf k t) a b x y
