@@ -10,7 +10,7 @@ use lib.ListN.{length, getD, drop, drop-of-length-le}
 use lib.Seq.{drop-cons}
 use borrow.Author.Tests.{leb-true, leb-false, lt-ltb, le-ltb}
 use Rattle.rules.specs.Line.{at}
-use Rattle.generator.specs.Menu.{sift, objects}
+use Rattle.generator.specs.Menu.{sift}
 use Rattle.generator.specs.Tables.{upward, sumOf, indexOf}
 
 -- clock + span fits, tested without a wrap
@@ -22,10 +22,6 @@ room clock span h = go (leb span (18446744073709551615 - clock)) refl
     go false e = let w : 18446744073709551615 - clock < span = leb-false _ _ e in sym (le-ltb (clock + span) (2 ^ 64) (omega arith))
 
 -- the loops over the objects 1..7
-pub from-one : upward 7 1 ≡ objects
-unfolding upward
-from-one = refl
-
 module _ (f : ℕ → Bool) (o : ℕ) where
   turn : o < 8 → sift f (upward (8 - o) o) ≡ cond (f o) (o ∷ sift f (upward (8 - (o + 1)) (o + 1))) (sift f (upward (8 - (o + 1)) (o + 1)))
   unfolding upward

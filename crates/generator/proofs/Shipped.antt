@@ -4,32 +4,33 @@ use Prim.Native.Nat.{ℕ, zero, suc, _-_, _≤_, _<_, _^_}
 use native.Mathlib.Omega.{arith}
 use mathlib.Core.Path.{_≡_, refl, sym, ap, _∙_}
 use mathlib.Core.Logic.{_≢_}
-use mathlib.Core.Bool.{Bool, true, false, cond, not, _&&_}
-use mathlib.Core.List.{List, [], _∷_}
+use mathlib.Core.Bool.{Bool, true, false, cond, not}
+use mathlib.Core.List.{[], _∷_}
 use lib.Dec.{eqb}
-use borrow.Author.Tests.{eqb-true, eqb-false, ne-eqb, eq-eqb}
+use borrow.Author.Tests.{eqb-true, ne-eqb}
 use Rattle.rules.specs.Line.{at}
-use Rattle.rules.specs.Machine.{Machine}
+use Rattle.rules.specs.Machine.{Machine, fresh}
 use Rattle.rules.specs.Machine as rules
 use Rattle.rules.specs.Table.{Effect, nothing, creates, declares, begins, moves, effect, carry}
-use Rattle.rules.specs.Refusals.{refusal, first-number}
+use Rattle.rules.specs.Refusals.{first-number}
 use Rattle.rules.specs.Sound.{sound}
-use Rattle.rules.specs.Run.{next, answer}
+use Rattle.rules.specs.Run.{next, answer, run}
 use Rattle.rules.proofs.Sounds.{Sound, tests-sound}
-use Rattle.rules.proofs.Step.{Step, kept, carried, step, moved-started, next-sound}
+use Rattle.rules.proofs.Step.{Step, kept, carried, step, moved-started, run-sound, fresh-sound}
+use Rattle.rules.proofs.Walk.{set-up}
 use Rattle.kernel.specs.declared.Kernel.{Kernel}
 use Rattle.kernel.specs.declared.command.Command.{Command}
 use Rattle.kernel.specs.View.{view, encode}
 use Rattle.kernel.specs.Public.{isSound, stepOf, said}
 use Rattle.kernel.proofs.Round.{view-encode}
-use Rattle.kernel.proofs.Written.{stands, step-sound}
+use Rattle.kernel.proofs.Written.{encode-sound, stands, step-sound}
 use Rattle.generator.specs.declared.Profile.{Profile}
 use Rattle.generator.specs.declared.Drawn.{Drawn}
 use Rattle.generator.specs.Xorshift.{draw}
 use Rattle.generator.specs.Draw as draws
-use Rattle.generator.specs.Draw.{good-profile, no-command, draw-refusal, drawn}
-use Rattle.generator.specs.Public.{profileOf, toldCommand, toldDrawn, refusedOf, drawnIn, drawnOf, stepOn, drawsOf}
-use Rattle.generator.proofs.Theorems.{Fine, drawn-is-fine, seed-left, refused-draw, seed-lives}
+use Rattle.generator.specs.Draw.{good-profile, draw-refusal, drawn}
+use Rattle.generator.specs.Public.{profileOf, toldDrawn, refusedOf, drawnIn, drawnOf, stepOn, drawsOf}
+use Rattle.generator.proofs.Theorems.{drawn-is-fine, seed-left, refused-draw, seed-lives, drawn-delay}
 
 -- The two ways of a draw: of a sound state it is the draw of the machine; any other is refused with 1.
 data Tested (k : Kernel) (seed : ℕ) (p : Profile) : Type 0 where
@@ -159,3 +160,10 @@ pub draws-go-on : (n : ℕ) (k : Kernel) (seed : ℕ) (p : Profile) → Going k 
 unfolding drawsOf
 draws-go-on zero k seed p g good = let e = going-draw k seed p g good in (e, drawn-accepted k seed p e)
 draws-go-on (suc n) k seed p g good = draws-go-on n (stepOn k (drawnOf k seed p .command) .next) (drawnOf k seed p .seed) p (going-on k seed p g) good
+
+-- ## Document 01's numbers
+-- `seed 1 span 100 weights 10 10 10 10 10 10 10 10`, behind the five set-up lines of the walk: the drawn delay 39, and the third draw left as the seed.
+pub draws-39 : drawnOf (encode (run fresh set-up)) 1 (record { span = 100; weights = 10 ∷ 10 ∷ 10 ∷ 10 ∷ 10 ∷ 10 ∷ 10 ∷ 10 ∷ [] })
+    ≡ record { code = 0; command = record { op = 4; a = 0; b = 0; value = 39 }; seed = 2647435461 }
+unfolding drawnOf drawnIn
+draws-39 = let s = run-sound set-up fresh fresh-sound in rw (encode-sound (run fresh set-up) s, view-encode (run fresh set-up) s, drawn-delay)

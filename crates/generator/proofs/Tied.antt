@@ -5,7 +5,7 @@ use mathlib.Core.Path.{_≡_, refl, sym, ap, subst, _∙_}
 use mathlib.Core.Logic.{_≢_}
 use mathlib.Core.Bool.{Bool, true, false, cond, not, _&&_}
 use mathlib.Core.List.{List, [], _∷_, map}
-use lib.Dec.{eqb, leb, ltb}
+use lib.Dec.{eqb, ltb}
 use lib.ListN.{length, getD, drop, drop-of-length-le}
 use lib.Seq.{drop-cons}
 use borrow.Author.Tests.{eqb-true, ltb-true, ltb-false, lt-ltb, le-ltb, ne-eqb, eq-eqb}
@@ -17,7 +17,6 @@ use Rattle.kernel.specs.declared.command.Command.{Command}
 use Rattle.kernel.specs.View.{view, with-idle, nobody-or}
 use Rattle.generator.specs.declared.Profile as given
 use Rattle.generator.specs.declared.Sight.{Sight}
-use Rattle.generator.specs.declared.Drawn.{Drawn}
 use Rattle.generator.specs.Xorshift.{draw}
 use Rattle.generator.specs.Menu.{sift, objects, menu, span-fits, free-runner}
 use Rattle.generator.specs.Draw.{Profile, weigh, total, choose, chosen, no-command, draw-refusal, drawn}

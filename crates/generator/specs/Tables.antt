@@ -57,12 +57,14 @@ firstsOf s = 0 ∷ 0 ∷ 0 ∷ s .object ∷ s .hand ∷ s .hand ∷ s .object �
 abbrev pub secondsOf : Sight → ℕ → List ℕ
 secondsOf s d3 = 0 ∷ 0 ∷ 0 ∷ 0 ∷ d3 % 2 ∷ 0 ∷ cond (s .quiet) (d3 % 2) 1 ∷ 0 ∷ []
 
+-- a delay's time, where the span fits
 abbrev pub delayTime : ℕ → ℕ → ℕ → ℕ
 delayTime clock span d2 = cond (ltb (clock + span) (2 ^ 64)) (clock + d2 % (span + 1)) 0
 
 abbrev pub valuesOf : ℕ → ℕ → ℕ → List ℕ
 valuesOf clock span d2 = delayTime clock span d2 ∷ 0 ∷ (1 + d2 % span) ∷ 0 ∷ 0 ∷ 0 ∷ 0 ∷ 0 ∷ []
 
+-- the sum of what the kinds weigh
 unfoldable pub sumOf : List ℕ → ℕ
 sumOf [] = 0
 sumOf (w ∷ ws) = w + sumOf ws

@@ -43,6 +43,7 @@ pub fn xorshift(x: u32) -> u32
     z ^ (z << 5)
 }
 
+// As a 64-bit number, that sums of a few of these fit.
 fn wide(x: u32) -> u64
     ensures same { λ r. ⌜ r ≡ x ⌝ }
     ensures small { λ r. ⌜ r < 2 ^ 32 ⌝ }
@@ -57,6 +58,7 @@ fn rest(x: u64, n: u64) -> u64
     if n == 0 { x } else { x % n }
 }
 
+// A barrier.
 fn bit(x: u32) -> u8
     ensures { λ r. ⌜ r ≡ x % 2 ⌝ }
 {
@@ -65,6 +67,7 @@ fn bit(x: u32) -> u8
 
 // ---- The eligible objects
 
+// To a runner of that base: declared, ceiling at least the base, not held.
 fn is_eligible(ceiling: [u8; 8], held: [u8; 32], base: u8, o: u8) -> bool
     ensures { λ r. ⌜ r ≡ tables.eligibleIn ceiling held base o ⌝ }
 {
@@ -73,6 +76,7 @@ fn is_eligible(ceiling: [u8; 8], held: [u8; 32], base: u8, o: u8) -> bool
     !(top == 0) & (base <= top) & !(1 <= n)
 }
 
+// How many of the objects 1..7 are eligible.
 fn count_eligible(ceiling: [u8; 8], held: [u8; 32], base: u8) -> u64
     ensures { λ r. ⌜ r ≡ length (sift (tables.eligibleIn ceiling held base) objects) ⌝ }
 {
@@ -124,9 +128,10 @@ struct Sight {
 fn has_room(clock: u64, span: u32) -> bool
     ensures { λ r. ⌜ r ≡ ltb (clock + span) (2 ^ 64) ⌝ }
 {
-    wide(span) <= 18446744073709551615 - clock
+    wide(span) <= u64::MAX - clock
 }
 
+// A way of 1 is that of an open, 2 of an entry.
 fn look(k: Kernel, span: u32, d2: u32) -> Sight
     ensures { λ r. ⌜ r ≡ tables.sightOf (view k) span d2 ⌝ }
 {
@@ -146,9 +151,9 @@ fn look(k: Kernel, span: u32, d2: u32) -> Sight
         free: !(runner == 0) & (hand == 0),
         opened: !(hand == 0) & (how == 1),
         entered: !(hand == 0) & (how == 2),
-        hand: hand,
+        hand,
         some: !(count == 0),
-        object: object,
+        object,
         quiet: line::of_object(waiter, POId(object)) == 0,
         room: has_room(k.clock, span),
     }
@@ -156,6 +161,7 @@ fn look(k: Kernel, span: u32, d2: u32) -> Sight
 
 // ---- The choice by weights
 
+// The weight of a kind, if it is legal.
 fn worth(legal: bool, w: u32) -> u32
     ensures { λ r. ⌜ r ≡ cond legal w 0 ⌝ }
 {
@@ -176,6 +182,7 @@ fn worths(s: Sight, w: [u32; 8]) -> [u32; 8]
     [delay, w[1], advance, open, closep, closef, entry, done]
 }
 
+// S, the sum of the legal weights.
 fn sum(w: [u32; 8]) -> u64
     ensures { λ r. ⌜ r ≡ tables.sumOf w ⌝ }
 {
@@ -237,6 +244,7 @@ fn delay_time(clock: u64, span: u32, d2: u32) -> u64
     }
 }
 
+// Those of an advance.
 fn ticks(span: u32, d2: u32) -> u64
     ensures { λ r. ⌜ r ≡ 1 + d2 % span ⌝ }
 {
@@ -267,6 +275,7 @@ fn command_for(i: u8, s: Sight, clock: u64, span: u32, d2: u32, d3: u32) -> Comm
     }
 }
 
+// The command of the kind that the first draw chooses.
 fn pick_command(k: Kernel, p: Profile, d1: u32, d2: u32, d3: u32) -> Command
     ensures { λ r. ⌜ r ≡ public.toldCommand (draws.chosen (view k) (public.profileOf p) d1 d2 d3) ⌝ }
 {
@@ -279,6 +288,7 @@ fn pick_command(k: Kernel, p: Profile, d1: u32, d2: u32, d3: u32) -> Command
 
 // ---- The refusals of a draw
 
+// No weight is above 100.
 fn are_small(w: [u32; 8]) -> bool
     ensures { λ r. ⌜ r ≡ every (λ x. leb x 100) w ⌝ }
 {
@@ -291,6 +301,7 @@ fn are_small(w: [u32; 8]) -> bool
     small
 }
 
+// What 18 asks of a profile.
 fn is_good(p: Profile) -> bool
     ensures { λ r. ⌜ r ≡ draws.good-profile (public.profileOf p) ⌝ }
 {

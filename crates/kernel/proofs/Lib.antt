@@ -8,3 +8,4 @@ pub mod Asked
 pub mod Marks
 pub mod Tested
 pub mod Question
+pub mod Ends

@@ -144,19 +144,22 @@ refused-formed c s = first-number (checksOf c s)
 unfoldable pub refusedOf : Command → Case → ℕ
 refusedOf c s = cond (not (formed c)) 4 (refused-formed c s)
 
-abbrev pub caseOf : Kernel → Command → Case
-caseOf k c = record {
-  started = k .started;
-  clock = k .clock;
-  runner = first k;
-  base = at (k .base) (first k);
-  held = at (k .held) (first k);
-  way = at (k .way) (first k);
-  named = at (k .base) (c .a);
-  ceiling = at (k .ceiling) (c .a);
-  waiter = at (k .waiter) (c .a);
-  holders = count (c .a) (k .held);
+abbrev pub caseOn : Command → List ℕ → List ℕ → List ℕ → List ℕ → List ℕ → List ℕ → ℕ → Bool → Case
+caseOn c base ready held way ceiling waiter clock started = record {
+  started = started;
+  clock = clock;
+  runner = at ready 0;
+  base = at base (at ready 0);
+  held = at held (at ready 0);
+  way = at way (at ready 0);
+  named = at base (c .a);
+  ceiling = at ceiling (c .a);
+  waiter = at waiter (c .a);
+  holders = count (c .a) held;
 }
+
+abbrev pub caseOf : Kernel → Command → Case
+caseOf k c = caseOn c (k .base) (k .ready) (k .held) (k .way) (k .ceiling) (k .waiter) (k .clock) (k .started)
 
 abbrev pub refusal-on : Kernel → Command → ℕ
 refusal-on k c = refusedOf c (caseOf k c)

@@ -8,6 +8,11 @@ use Rattle.rules.specs.Line.{at, all-below}
 use Rattle.line.specs.Tables.{falls, rises, ended, zeros, marks, no-task}
 use Rattle.kernel.specs.declared.Kernel.{Kernel}
 
+-- the tables as one state
+abbrev pub tables : List ℕ → List ℕ → List ℕ → List ℕ → List ℕ → List ℕ → List ℕ → List ℕ → ℕ → Bool → Kernel
+tables base ready delayed held way until ceiling waiter clock started =
+    record { base = base; ready = ready; delayed = delayed; held = held; way = way; until = until; ceiling = ceiling; waiter = waiter; clock = clock; started = started }
+
 -- where each task stands: 1 ready, 2 delayed, 3 waiting, 0 nowhere, 9 twice
 unfoldable pub placesOf : Kernel → List ℕ
 placesOf k = marks (leb 32) 3 (k .waiter) (marks no-task 2 (k .delayed) (marks no-task 1 (k .ready) (replicate 32 0)))

@@ -5,7 +5,7 @@ ghost use mathlib.Core.Bool.{not};
 ghost use lib.Dec.{ltb};
 ghost use Rattle.rules.specs.Refusals.{formed};
 ghost use Rattle.kernel.specs.Public.{said};
-ghost use Rattle.kernel.specs.Step.{refused-formed, refusedOf, refusal-on};
+ghost use Rattle.kernel.specs.Step.{refused-formed, refusedOf, caseOn};
 use crate::Kernel;
 use line::POId;
 use line::TaskID;
@@ -26,7 +26,7 @@ pub struct Answer {
 }
 
 // What the tests of a command look at: the runner's cells, and those of the task or object that it names.
-pub struct Case {
+pub(crate) struct Case {
     pub started: bool,
     pub clock: u64,
     pub runner: u8,
@@ -42,15 +42,15 @@ pub struct Case {
 
 impl Command {
     // Range: a known op, and each operand what it may be.
-    pub fn formed(self) -> bool
+    pub(crate) fn formed(self) -> bool
         ensures { λ r. ⌜ r ≡ formed (said self) ⌝ }
     {
         let op = self.op;
         let a = self.a;
         let b = self.b;
-        let task = (1 <= a) & (a <= 31);
-        let object = (1 <= a) & (a <= 7);
-        let priority = (1 <= b) & (b <= 15);
+        let task = (1 <= a) & (a <= Kernel::LAST_TASK.0);
+        let object = (1 <= a) & (a <= Kernel::LAST_OBJECT.0);
+        let priority = (1 <= b) & (b <= Kernel::TOP_PRIORITY);
         let none = self.value == 0;
         match op {
             1 => task & priority & none,
@@ -69,7 +69,7 @@ impl Command {
     }
 
     // The number of the first test that holds behind Range, 0 where none does: the last test first.
-    pub fn refused_formed(self, s: Case) -> u8
+    pub(crate) fn refused_formed(self, s: Case) -> u8
         ensures { λ r. ⌜ r ≡ refused-formed (said self) s ⌝ }
     {
         let op = self.op;
@@ -92,7 +92,7 @@ impl Command {
         line::choose((4 <= op) & (op <= 11) & !s.started, 2, n)
     }
 
-    pub fn refused(self, s: Case) -> u8
+    pub(crate) fn refused(self, s: Case) -> u8
         ensures { λ r. ⌜ r ≡ refusedOf (said self) s ⌝ }
     {
         let n = self.refused_formed(s);
@@ -107,30 +107,32 @@ fn passes_end(clock: u64, ticks: u64) -> bool
     18446744073709551615 - clock < ticks
 }
 
-impl Kernel {
-    // The number of refusal of a command in a sound state.
-    pub fn refusal(self, c: Command) -> u8
-        ensures { λ r. ⌜ r ≡ refusal-on self (said c) ⌝ }
-    {
-        let base = self.base;
-        let held = self.held;
-        let way = self.way;
-        let ceiling = self.ceiling;
-        let waiter = self.waiter;
-        let r = TaskID(self.ready[0]);
-        let o = POId(c.a);
-        let s = Case {
-            started: self.started,
-            clock: self.clock,
-            runner: r.0,
-            base: line::of_task(base, r),
-            held: line::of_task(held, r),
-            way: line::of_task(way, r),
-            named: line::of_task(base, TaskID(c.a)),
-            ceiling: line::of_object(ceiling, o),
-            waiter: line::of_object(waiter, o),
-            holders: line::holders(held, o),
-        };
-        c.refused(s)
+// What the tests of a command look at.
+pub(crate) fn looked_at(
+    c: Command,
+    base: [u8; 32],
+    ready: [u8; 32],
+    held: [u8; 32],
+    way: [u8; 32],
+    ceiling: [u8; 8],
+    waiter: [u8; 8],
+    clock: u64,
+    started: bool,
+) -> Case
+    ensures { λ r. ⌜ r ≡ caseOn (said c) base ready held way ceiling waiter clock started ⌝ }
+{
+    let r = TaskID(ready[0]);
+    let o = POId(c.a);
+    Case {
+        started,
+        clock,
+        runner: r.0,
+        base: line::of_task(base, r),
+        held: line::of_task(held, r),
+        way: line::of_task(way, r),
+        named: line::of_task(base, TaskID(c.a)),
+        ceiling: line::of_object(ceiling, o),
+        waiter: line::of_object(waiter, o),
+        holders: line::holders(held, o),
     }
 }

@@ -10,7 +10,6 @@ mod ops;
 mod test;
 
 pub use command::Answer;
-pub use command::Case;
 pub use command::Command;
 pub use line::POId;
 pub use line::TaskID;
@@ -78,24 +77,73 @@ impl Kernel {
     pub fn step(self, c: Command) -> Stepped
         ensures { λ r. ⌜ r ≡ stepOf self (said c) ⌝ }
     {
-        let run = line::choose(self.started, self.ready[0], 0);
-        if !self.sound() {
+        let base = self.base;
+        let ready = self.ready;
+        let delayed = self.delayed;
+        let held = self.held;
+        let way = self.way;
+        let ceiling = self.ceiling;
+        let waiter = self.waiter;
+        if !test::tested(
+            base,
+            ready,
+            delayed,
+            held,
+            way,
+            &self.until,
+            ceiling,
+            waiter,
+            self.clock,
+            self.started,
+        ) {
             return Stepped {
                 next: self,
                 answer: refused(1, 0),
             };
         }
-        let code = self.refusal(c);
+        let s = command::looked_at(
+            c,
+            base,
+            ready,
+            held,
+            way,
+            ceiling,
+            waiter,
+            self.clock,
+            self.started,
+        );
+        let code = c.refused(s);
         if code != 0 {
             return Stepped {
                 next: self,
-                answer: refused(code, run),
+                answer: refused(code, line::choose(self.started, ready[0], 0)),
             };
         }
-        self.carried(c)
+        let op = c.op;
+        match op {
+            1 => self.created(TaskID(c.a), c.b),
+            2 => self.declared(POId(c.a), c.b),
+            3 => self.begun(),
+            4 => if self.clock < c.value {
+                self.slept(c.value)
+            } else {
+                self.yielded()
+            },
+            5 => self.waking(),
+            7 => self.held_by_runner(POId(c.a), 1),
+            8 => self.closing(POId(c.a), c.b),
+            9 => self.closed(0),
+            10 => if c.b == 1 {
+                self.held_by_runner(POId(c.a), 2)
+            } else {
+                self.awaiting(POId(c.a))
+            },
+            11 => self.closed(0),
+            _ => self.advanced(c.value),
+        }
     }
 
-    // How many more Wakes release the task, 0 where it is not delayed and due.
+    // How many accepted Wakes there are until the one that releases the task, that one counted; 0 where it is not delayed and due.
     pub fn wakes_left(self, t: TaskID) -> Left
         ensures { λ r. ⌜ r ≡ leftOf self (t .0) ⌝ }
     {

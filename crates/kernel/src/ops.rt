@@ -1,11 +1,9 @@
 // What each command does to the tables when it is accepted, and its answer.
 ghost use mathlib.Core.Path.{_≡_};
-ghost use Rattle.kernel.specs.Public.{said};
 ghost use Rattle.kernel.specs.Step as step;
 use crate::Kernel;
 use crate::Stepped;
 use crate::command::Answer;
-use crate::command::Command;
 use line::POId;
 use line::TaskID;
 
@@ -33,7 +31,7 @@ fn accepted(started: bool, front: u8, released: u8) -> Answer
 
 impl Kernel {
     // 1: created, placed at the tail of its base
-    fn created(self, t: TaskID, p: u8) -> Stepped
+    pub(crate) fn created(self, t: TaskID, p: u8) -> Stepped
         ensures { λ r. ⌜ r ≡ step.createdOf self (t .0) p ⌝ }
     {
         let old = self.base;
@@ -52,7 +50,7 @@ impl Kernel {
     }
 
     // 2: declared
-    fn declared(self, o: POId, p: u8) -> Stepped
+    pub(crate) fn declared(self, o: POId, p: u8) -> Stepped
         ensures { λ r. ⌜ r ≡ step.declaredOf self (o .0) p ⌝ }
     {
         let old = self.ceiling;
@@ -66,7 +64,7 @@ impl Kernel {
     }
 
     // 3: the front runs
-    fn begun(self) -> Stepped
+    pub(crate) fn begun(self) -> Stepped
         ensures { λ r. ⌜ r ≡ step.begunOf self ⌝ }
     {
         let mut next = self;
@@ -78,7 +76,7 @@ impl Kernel {
     }
 
     // 4, with a time that has passed: the runner goes to the tail of its base
-    fn yielded(self) -> Stepped
+    pub(crate) fn yielded(self) -> Stepped
         ensures { λ r. ⌜ r ≡ step.yieldedOf self ⌝ }
     {
         let line = self.ready;
@@ -98,7 +96,7 @@ impl Kernel {
     }
 
     // 4, with a time above the clock: into the delay line
-    fn slept(self, v: u64) -> Stepped
+    pub(crate) fn slept(self, v: u64) -> Stepped
         ensures { λ r. ⌜ r ≡ step.sleptOf self v ⌝ }
     {
         let line = self.ready;
@@ -117,7 +115,7 @@ impl Kernel {
     }
 
     // 5, where the first delay entry is due: it goes to the tail of its base
-    fn woken(self, t: TaskID) -> Stepped
+    pub(crate) fn woken(self, t: TaskID) -> Stepped
         ensures { λ r. ⌜ r ≡ step.wokenOf self (t .0) ⌝ }
     {
         let line = self.ready;
@@ -139,7 +137,7 @@ impl Kernel {
     }
 
     // 6: the clock grows
-    fn advanced(self, ticks: u64) -> Stepped
+    pub(crate) fn advanced(self, ticks: u64) -> Stepped
         ensures { λ r. ⌜ r ≡ step.advancedOf self ticks ⌝ }
     {
         let mut next = self;
@@ -151,7 +149,7 @@ impl Kernel {
     }
 
     // 7, and 10 with the barrier open: the runner holds the object, in that way
-    fn held_by_runner(self, o: POId, w: u8) -> Stepped
+    pub(crate) fn held_by_runner(self, o: POId, w: u8) -> Stepped
         ensures { λ r. ⌜ r ≡ step.heldOf self (o .0) w ⌝ }
     {
         let r = TaskID(self.ready[0]);
@@ -169,7 +167,7 @@ impl Kernel {
     }
 
     // 8, where t waits and the barrier is open: it goes to the tail of its base
-    fn served(self, o: POId, t: TaskID) -> Kernel
+    pub(crate) fn served(self, o: POId, t: TaskID) -> Kernel
         ensures { λ r. ⌜ r ≡ step.servedOf self (o .0) (t .0) ⌝ }
     {
         let line = self.ready;
@@ -187,7 +185,7 @@ impl Kernel {
     }
 
     // 8, 9, 11: the runner holds nothing and goes to the head of its base
-    fn closed(self, released: u8) -> Stepped
+    pub(crate) fn closed(self, released: u8) -> Stepped
         ensures { λ r. ⌜ r ≡ step.closedOf self released ⌝ }
     {
         let line = self.ready;
@@ -198,9 +196,10 @@ impl Kernel {
         let r = TaskID(line[0]);
         let held = line::with_task(hands, r, 0);
         let way = line::with_task(ways, r, 0);
-        let p = line::one_more(line::of_task(base, r));
+        let own = line::of_task(base, r);
+        let above = line::one_more(own);
         let rest = line::without_front(line);
-        let ready = line::at_level(rest, base, ceiling, held, p, r);
+        let ready = line::at_level(rest, base, ceiling, held, above, r);
         let mut next = self;
         next.ready = ready;
         next.held = held;
@@ -212,7 +211,7 @@ impl Kernel {
     }
 
     // 10 with the barrier shut: the runner leaves the line and waits on the object
-    fn awaiting(self, o: POId) -> Stepped
+    pub(crate) fn awaiting(self, o: POId) -> Stepped
         ensures { λ r. ⌜ r ≡ step.awaitingOf self (o .0) ⌝ }
     {
         let line = self.ready;
@@ -229,7 +228,7 @@ impl Kernel {
     }
 
     // The task to wake: the first delay entry, if its time is at most the clock; 0 for nobody.
-    fn first_due(self) -> u8
+    pub(crate) fn first_due(self) -> u8
         ensures { λ r. ⌜ r ≡ step.dueOf self ⌝ }
     {
         let t = self.delayed[0];
@@ -237,7 +236,7 @@ impl Kernel {
     }
 
     // The task to serve: the one that waits on the object, if the barrier is open; 0 for nobody.
-    fn first_waiting(self, o: POId, barrier: u8) -> u8
+    pub(crate) fn first_waiting(self, o: POId, barrier: u8) -> u8
         ensures { λ r. ⌜ r ≡ step.waitingOf self (o .0) barrier ⌝ }
     {
         let waiter = self.waiter;
@@ -245,7 +244,7 @@ impl Kernel {
     }
 
     // 5: the first delay entry, if it is due; otherwise nothing changes
-    fn waking(self) -> Stepped
+    pub(crate) fn waking(self) -> Stepped
         ensures { λ r. ⌜ r ≡ step.wakeOf self ⌝ }
     {
         let t = self.first_due();
@@ -257,7 +256,7 @@ impl Kernel {
     }
 
     // 8: whoever waits, if the barrier is open; then the runner
-    fn closing(self, o: POId, barrier: u8) -> Stepped
+    pub(crate) fn closing(self, o: POId, barrier: u8) -> Stepped
         ensures { λ r. ⌜ r ≡ step.closepOf self (o .0) barrier ⌝ }
     {
         let t = self.first_waiting(o, barrier);
@@ -265,34 +264,6 @@ impl Kernel {
             self.closed(0)
         } else {
             self.served(o, TaskID(t)).closed(t)
-        }
-    }
-
-    // An accepted command carried out.
-    pub fn carried(self, c: Command) -> Stepped
-        ensures { λ r. ⌜ r ≡ step.carriedOf self (said c) ⌝ }
-    {
-        let op = c.op;
-        match op {
-            1 => self.created(TaskID(c.a), c.b),
-            2 => self.declared(POId(c.a), c.b),
-            3 => self.begun(),
-            4 => if self.clock < c.value {
-                self.slept(c.value)
-            } else {
-                self.yielded()
-            },
-            5 => self.waking(),
-            7 => self.held_by_runner(POId(c.a), 1),
-            8 => self.closing(POId(c.a), c.b),
-            9 => self.closed(0),
-            10 => if c.b == 1 {
-                self.held_by_runner(POId(c.a), 2)
-            } else {
-                self.awaiting(POId(c.a))
-            },
-            11 => self.closed(0),
-            _ => self.advanced(c.value),
         }
     }
 }

@@ -127,6 +127,35 @@ fn is_calm(started: bool, clock: u64, first: u8, waiter: [u8; 8], held: [u8; 32]
     (clock == 0) & (first == 0) & nobody_waits(waiter) & line::is_free(held)
 }
 
+// The whole test, table by table: the state itself goes into no call.
+pub(crate) fn tested(
+    base: [u8; 32],
+    ready: [u8; 32],
+    delayed: [u8; 32],
+    held: [u8; 32],
+    way: [u8; 32],
+    until: &[u64; 32],
+    ceiling: [u8; 8],
+    waiter: [u8; 8],
+    clock: u64,
+    started: bool,
+) -> bool
+    ensures { λ r. ⌜ r ≡ test.testOf (test.tables base ready delayed held way (now (until .entry)) ceiling waiter clock started) ⌝ }
+{
+    let ended = line::is_ended(ready) & line::is_ended(delayed);
+    let falling = line::is_falling(ready, base, ceiling, held);
+    let rising = line::is_rising(delayed, until);
+    let place = line::mark_line(ready, READY, [0; 32]);
+    let place = line::mark_line(delayed, DELAYED, place);
+    let place = line::mark_waiting(waiter, WAITING, place);
+    let tasks = tasks_fit(base, place, held, way);
+    let times = times_fit(until, place);
+    let holders = holders_fit(base, held, ceiling);
+    let objects = objects_fit(base, ceiling, waiter);
+    let calm = is_calm(started, clock, delayed[0], waiter, held);
+    ended & falling & rising & tasks & times & holders & objects & calm
+}
+
 impl Kernel {
     pub fn sound(self) -> bool
         ensures { λ r. ⌜ r ≡ isSound self ⌝ }
@@ -138,17 +167,17 @@ impl Kernel {
         let way = self.way;
         let ceiling = self.ceiling;
         let waiter = self.waiter;
-        let ended = line::is_ended(ready) & line::is_ended(delayed);
-        let falling = line::is_falling(ready, base, ceiling, held);
-        let rising = line::is_rising(delayed, &self.until);
-        let place = line::mark_line(ready, READY, [0; 32]);
-        let place = line::mark_line(delayed, DELAYED, place);
-        let place = line::mark_waiting(waiter, WAITING, place);
-        let tasks = tasks_fit(base, place, held, way);
-        let times = times_fit(&self.until, place);
-        let holders = holders_fit(base, held, ceiling);
-        let objects = objects_fit(base, ceiling, waiter);
-        let calm = is_calm(self.started, self.clock, delayed[0], waiter, held);
-        ended & falling & rising & tasks & times & holders & objects & calm
+        tested(
+            base,
+            ready,
+            delayed,
+            held,
+            way,
+            &self.until,
+            ceiling,
+            waiter,
+            self.clock,
+            self.started,
+        )
     }
 }

@@ -7,7 +7,8 @@ use native.Mathlib.Omega.{arith}
 use mathlib.Core.Path.{_≡_, refl, sym, ap, _∙_, subst}
 use mathlib.Core.Logic.{_≢_, _↔_}
 use mathlib.Core.Bool.{true, false}
-use mathlib.Core.List.{List, map}
+use mathlib.Core.List.{List, _∷_, map}
+use lib.ListN.{replicate}
 use Rattle.rules.specs.Line.{at}
 use Rattle.rules.specs.Machine.{Machine, fresh, running}
 use Rattle.rules.specs.Machine as Rules
@@ -15,7 +16,7 @@ use Rattle.rules.specs.Run.{next, released, answer, run, answers}
 use Rattle.rules.proofs.Words.{All, moments, wakes, wakes-in}
 use Rattle.rules.proofs.Sounds.{Sound}
 use Rattle.rules.proofs.Step.{next-sound, run-sound, fresh-sound}
-use Rattle.rules.proofs.Wakes.{keeps-its-turn, at-wake, question-left, left-question}
+use Rattle.rules.proofs.Wakes.{a-wake, keeps-its-turn, at-wake, question-left, left-question, wakes-in-row, row-of-wakes}
 use Rattle.rules.proofs.Theorems as rules
 use Rattle.kernel.specs.declared.Kernel.{Kernel}
 use Rattle.kernel.specs.declared.Stepped.{Stepped}
@@ -118,6 +119,28 @@ none-left-says k t s = (λ e r d. omega (arith, wakes-left-says k t r s .1 d), �
     go zero e f = e
     go (suc r) e f = absurd (f r (wakes-left-says k t r s .0 e))
 
+-- Told from outside, after Start: the answer is r + 1 exactly if, of Wakes that follow one another, the (r+1)th releases t.
+-- Rules out: a kernel that refuses Wakes, or that releases whoever sleeps. Leaves: Wakes with other commands between (the promise above).
+abbrev aWake : Command
+aWake = record { op = 5; a = 0; b = 0; value = 0 }
+
+pub wakes-left-seen : (k : Kernel) (t r : ℕ) → isSound k ≡ true → k .started ≡ true → t ≢ 0
+    → (leftOf k t .left ≡ suc r) ↔ (stepped (runOf k (replicate r aWake)) aWake .answer .released .0 ≡ t)
+unfolding answer encode
+wakes-left-seen k t r e = let z = stands k e in subst Seen (z .written) (on (view k) (z .machine))
+  where
+    Seen : Kernel → Type 0
+    Seen k = k .started ≡ true → t ≢ 0 → (leftOf k t .left ≡ suc r) ↔ (stepped (runOf k (replicate r aWake)) aWake .answer .released .0 ≡ t)
+
+    row : (n : ℕ) → map said (replicate n aWake) ≡ replicate n a-wake
+    row zero = refl
+    row (suc n) = ap (λ (l : List Rules.Command). a-wake ∷ l) (row n)
+
+    on : (m : Machine) → Sound m → Seen (encode m)
+    on m s st n =
+        let cs = replicate r aWake in
+        rw (left-tie m s t, run-tie cs m s, step-on (run m (map said cs)) (run-sound (map said cs) m s) a-wake, row r) (λ q. wakes-in-row r m s st t (question-left m s t r q), λ q. left-question m s t r (row-of-wakes r m s st t n q))
+
 -- carried over from the rules, for the tables of a sound machine
 base-tie : (m : Machine) → encode m .base ≡ m .base
 unfolding encode
@@ -127,6 +150,12 @@ held-tie : (m : Machine) → encode m .held ≡ m .held
 unfolding encode
 held-tie m = refl
 
+running-behind : (n : Machine) → Sound n → (after : List Command) → runningOf (runOf (encode n) after) ≡ running (run n (map said after))
+running-behind n s after = ap (λ (x : Kernel). runningOf x) (run-tie after n s) ∙ running-tie (run n (map said after)) (run-sound (map said after) n s)
+
+never-ran : (n : Machine) → Sound n → (t : ℕ) (after : List Command) → All (λ s. runningOf s ≢ t) (momentsOf (encode n) after) → All (λ s. running s ≢ t) (moments n (map said after))
+never-ran n s t after = all-moments (λ x. runningOf x ≢ t) (λ x. running x ≢ t) (λ m sm h e. h (running-tie m sm ∙ e)) after n s
+
 lower-on : (n : Machine) → Sound n → (t low object : ℕ)
     → ((after : List Rules.Command) → All (λ s. running s ≢ t) (moments n after) → at (n .base) (running (run n after)) < at (n .base) t
     → (running (run n after) ≡ low) × (object ≢ 0) × All (λ s. at (s .held) low ≡ object) (moments n after))
@@ -134,9 +163,9 @@ lower-on : (n : Machine) → Sound n → (t low object : ℕ)
     → (runningOf (runOf (encode n) after) ≡ low) × (object ≢ 0) × All (λ s. at (s .held) low ≡ object) (momentsOf (encode n) after)
 lower-on n s t low object f after k lt =
     let cs = map said after in
-    let r : runningOf (runOf (encode n) after) ≡ running (run n cs) = ap (λ (x : Kernel). runningOf x) (run-tie after n s) ∙ running-tie (run n cs) (run-sound cs n s) in
+    let r = running-behind n s after in
     let lt′ : at (n .base) (running (run n cs)) < at (n .base) t = rw (r, base-tie n) at lt in
-    let w = f cs (all-moments (λ x. runningOf x ≢ t) (λ x. running x ≢ t) (λ m sm h e. h (running-tie m sm ∙ e)) after n s k) lt′ in
+    let w = f cs (never-ran n s t after k) lt′ in
     (r ∙ w .0, w .1, moments-all (λ x. at (x .held) low ≡ object) (λ x. at (x .held) low ≡ object) (λ m sm h. ap (λ (l : List ℕ). at l low) (held-tie m) ∙ h) after n s (w .2))
 
 -- ## The promise on releases
@@ -156,6 +185,24 @@ unfolding answer
 release-promise before c = rw (run-from-fresh before, step-on (behind before) (behind-sound before) (said c)) (λ z.
     let w = rules.release-promise (map said before) (said c) z in
     (w .0, w .1, lower-on (next (behind before) (said c)) (next-sound (behind before) (behind-sound before) (said c)) (released (behind before) (said c)) (w .0) (w .1) (w .2)))
+
+-- The same of two moments: whoever of lower base runs at the end of one way on from the release, and of another, is one task.
+-- Rules out: a low task that depends on what comes later. Leaves: that it holds an object (the promise itself).
+pub one-lower-task : (before : List Command) (c : Command) (to-i to-j : List Command) → let k = runOf freshOf before in let now = stepped k c .next in let t = stepped k c .answer .released .0 in
+    t ≢ 0 → All (λ s. runningOf s ≢ t) (momentsOf now to-i) → All (λ s. runningOf s ≢ t) (momentsOf now to-j)
+    → at (now .base) (runningOf (runOf now to-i)) < at (now .base) t → at (now .base) (runningOf (runOf now to-j)) < at (now .base) t
+    → runningOf (runOf now to-i) ≡ runningOf (runOf now to-j)
+one-lower-task before c to-i to-j n ki kj li lj = let w = release-promise before c n in w .2 to-i ki li .0 ∙ sym (w .2 to-j kj lj .0)
+
+-- Idle, which holds nothing, runs at no such moment.
+-- Rules out: a released task that is put behind idle, or lost. Leaves: which of the others runs (the promise itself).
+pub idle-does-not-run : (before : List Command) (c : Command) (after : List Command) → let k = runOf freshOf before in let now = stepped k c .next in let t = stepped k c .answer .released .0 in
+    t ≢ 0 → All (λ s. runningOf s ≢ t) (momentsOf now after) → runningOf (runOf now after) ≢ 0
+unfolding answer
+idle-does-not-run before c after = rw (run-from-fresh before, step-on (behind before) (behind-sound before) (said c)) (λ z ks e.
+    let n = next (behind before) (said c) in
+    let s = next-sound (behind before) (behind-sound before) (said c) in
+    rules.idle-does-not-run (map said before) (said c) (map said after) z (never-ran n s (released (behind before) (said c)) after ks) (sym (running-behind n s after) ∙ e))
 
 -- ## No second answer
 -- A contract that is one equation leaves nothing to choose: whatever else meets it is the same answer. Of the kernel's functions each is

@@ -3,7 +3,7 @@ use Prim.Native.Nat.{_+_, _-_, _≤_}
 use mathlib.Core.Path.{_≡_, sym, ap, _∙_}
 use mathlib.Core.Logic.{⊎-elim}
 use native.Mathlib.Omega.{arith}
-use lib.ListN.{length, getD}
+use lib.ListN.{length}
 use Rattle.generator.specs.Menu.{sift, objects}
 use Rattle.generator.specs.Tables.{eligibleIn, upward}
 use Rattle.generator.proofs.Loops.{sift-yes, sift-no, sift-done}

@@ -1,10 +1,9 @@
 -- `generator::delay_time` meets its contract. Where the span fits, so does each time up to it. Assumes nothing.
 use Prim.Native.Nat.{_+_, _%_, _<_, _^_}
-use mathlib.Core.Path.{_≡_, sym, _∙_}
-use mathlib.Core.Bool.{false}
+use mathlib.Core.Path.{sym, _∙_}
 use native.Mathlib.Omega.{arith}
 use native.Mathlib.Nat.{mod-lt}
-use borrow.Author.Tests.{ltb-true, not-true}
+use borrow.Author.Tests.{ltb-true}
 use borrow.Author.Needs.{needs}
 use Rattle.generator.proofs.delay_time.Statement.{statement}
 use Rattle.generator.proofs.delay_time.Tie as tie

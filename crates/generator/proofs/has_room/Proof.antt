@@ -1,5 +1,4 @@
 -- `generator::has_room` meets its contract. Assumes nothing.
-use mathlib.Core.Path.{_∙_}
 use native.Mathlib.Omega.{arith}
 use Rattle.generator.proofs.Loops.{room}
 use borrow.Author.Needs.{needs}

@@ -1,9 +1,9 @@
 -- `generator::nth_eligible` meets its contract. The invariant: the object is number `left` of those from o upward. Assumes nothing.
 use Prim.Native.Nat.{_+_, _-_, _≤_}
-use mathlib.Core.Path.{_≡_, sym, ap, _∙_}
+use mathlib.Core.Path.{_≡_, sym, _∙_}
 use mathlib.Core.Logic.{⊎-elim}
 use native.Mathlib.Omega.{arith}
-use lib.ListN.{length, getD}
+use lib.ListN.{getD}
 use Rattle.generator.specs.Menu.{sift, objects}
 use Rattle.generator.specs.Tables.{eligibleIn, upward}
 use Rattle.generator.proofs.Loops.{sift-yes, sift-no, sift-done, past-first}

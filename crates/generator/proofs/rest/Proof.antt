@@ -1,5 +1,4 @@
 -- `generator::rest` meets its contract: by 0 the rest is the number itself. Assumes nothing.
-use mathlib.Core.Path.{sym}
 use native.Mathlib.Nat.{mod-zero}
 use borrow.Author.Needs.{needs}
 use Rattle.generator.proofs.rest.Statement.{statement}

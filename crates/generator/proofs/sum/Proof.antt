@@ -1,6 +1,6 @@
 -- `generator::sum` meets its contract. The invariant: the sum is s and that of the rest; s is below 2^32 for each weight passed. Assumes nothing.
 use Prim.Native.Nat.{_+_, _-_, _*_, _≤_}
-use mathlib.Core.Path.{_≡_, sym, _∙_}
+use mathlib.Core.Path.{_≡_}
 use native.Mathlib.Omega.{arith}
 use lib.ListN.{length, drop}
 use Rattle.generator.specs.Tables.{sumOf}

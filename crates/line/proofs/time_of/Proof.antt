@@ -1,4 +1,4 @@
--- `line::time_of` meets its contract: in the table it is the cell, past its end 0. Assumes nothing.
+-- `line::time_of` meets its contract, by its test. Assumes nothing.
 use borrow.Author.Tests.{lt-ltb, le-ltb}
 use borrow.Author.Needs.{needs}
 use Rattle.line.proofs.time_of.Statement.{statement}

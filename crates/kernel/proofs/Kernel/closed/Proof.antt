@@ -4,8 +4,8 @@ use borrow.Author.Needs.{needs}
 use Rattle.kernel.proofs.Kernel.closed.Statement.{statement}
 use Rattle.kernel.proofs.Kernel.closed.Tie as tie
 
-array-read-one-more : tie.Need-array-read-one-more
-array-read-one-more c = search needs
+array-read-accepted : tie.Need-array-read-accepted
+array-read-accepted c = search needs
 
 with-task-requires : tie.Need-with-task-requires
 with-task-requires c κs = search needs
@@ -25,8 +25,8 @@ without-front-requires c κs = search needs
 at-level-requires : tie.Need-at-level-requires
 at-level-requires c κs = search needs
 
-array-read-accepted : tie.Need-array-read-accepted
-array-read-accepted c = search needs
+array-read-accepted-2 : tie.Need-array-read-accepted-2
+array-read-accepted-2 c = search needs
 
 accepted-requires : tie.Need-accepted-requires
 accepted-requires c κs = search needs
@@ -39,13 +39,13 @@ pub closed-spec : {M : Type 1} → statement M
 closed-spec =
     tie.close
     (tie.spec
-    array-read-one-more
+    array-read-accepted
     with-task-requires
     with-task-requires-2
     of-task-requires
     one-more-requires
     without-front-requires
     at-level-requires
-    array-read-accepted
+    array-read-accepted-2
     accepted-requires
     returns)

@@ -1,66 +1,246 @@
--- `Kernel::step` is stepOf: a state that fails the test comes back; of one that passes it, Whole shows that the step on tables is the rules'. Assumes nothing.
-use mathlib.Core.Path.{_≡_, sym, _∙_}
-use mathlib.Core.Bool.{true, false}
-use borrow.Author.Tests.{eq-eqb, ne-eqb, not-true, not-false}
+-- `Kernel::step` is stepOf: a state that fails the test comes back as it is; of one that passes it, a refused command ends as Ends says, and an
+-- accepted one as the row of its op. Assumes nothing.
+use mathlib.Core.Path.{_≡_, sym, ap, _∙_}
+use mathlib.Core.Bool.{true, false, cond}
+use lib.Dec.{eqb, ltb}
+use borrow.Author.Tests.{lt-ltb, le-ltb, eq-eqb, ne-eqb, not-true, not-false}
+use Rattle.kernel.proofs.Tested.{Sizes, test-same}
 use Rattle.kernel.specs.Public.{isSound, stepOf, said}
-use Rattle.kernel.specs.Step.{steppedOf}
-use Rattle.kernel.proofs.Whole.{step-meets}
-use borrow.Author.Needs.{needs}
+use Rattle.kernel.specs.Step.{refusedOf, carriedOf, createdOf, declaredOf, begunOf, sleptOf, yieldedOf, wakeOf, advancedOf, heldOf, closepOf, closedOf, awaitingOf}
+use Rattle.kernel.proofs.Ends.{refused-end, accepted-end}
+use Rattle.kernel.proofs.Loops.{other-op}
+use borrow.Author.Needs.{needs, elem-fits-field}
+use mir.Syntax.{w64}
 use Rattle.kernel.proofs.Kernel.step.Statement.{statement}
 use Rattle.kernel.proofs.Kernel.step.Tie as tie
 
-element-copy-out-choose : tie.Need-element-copy-out-choose
-element-copy-out-choose c = search needs
+sizes : (c : tie.Start) → Sizes (c .args .t1)
+sizes c = record {
+  base = search needs;
+  ready = search needs;
+  delayed = search needs;
+  held = search needs;
+  way = search needs;
+  until = search needs;
+  ceiling = search needs;
+  waiter = search needs;
+  clock = search needs;
+  times = λ t. elem-fits-field w64 w64 (c .args .t1 .until) (c .good .0 .1 .1 .1 .1 .1 .1 .1 .0 .0) t (c .good .0 .1 .1 .1 .1 .1 .1 .1 .0 .1 .1) tt .fits;
+}
 
-choose-requires : tie.Need-choose-requires
-choose-requires c κs = search needs
-
-sound-requires : tie.Need-sound-requires
-sound-requires c κs = search needs
+tested-requires : tie.Need-tested-requires
+tested-requires c κs = search needs
 
 refused-requires : tie.Need-refused-requires
 refused-requires c κs = search needs
 
 returns : tie.Need-returns
 unfolding stepOf
-returns c = let k = c .before .before .before .before .before .args .t1 in
-    let e : isSound k ≡ false = sym (c .before .before .sound .ensures) ∙ not-true _ (c .before .if1 .taken) in
+returns c = let s = c .before .before .before .before .before .before .before .before .before .before .before .before in
+    let e : isSound (s .args .t1) ≡ false = sym (c .before .before .tested .ensures ∙ test-same (s .args .t1) (sizes s)) ∙ not-true _ (c .before .if1 .taken) in
     rw (c .refused .ensures, e)
 
-refusal-requires : tie.Need-refusal-requires
-refusal-requires c κs = search needs
+looked-at-requires : tie.Need-looked-at-requires
+looked-at-requires c κs = search needs
 
 refused-requires-2 : tie.Need-refused-requires-2
 refused-requires-2 c κs = search needs
 
-returns-2 : tie.Need-returns-2
-unfolding steppedOf
-returns-2 c = let k = c .before .before .before .before .before .before .before .args .t1 in
-    let e : isSound k ≡ true = sym (c .before .before .before .before .sound .ensures) ∙ not-false _ (c .before .before .before .if1 .left) in
-    let meets = step-meets k (said (c .before .before .before .before .before .before .before .args .c)) e in
-    rw (c .refused2 .ensures, ← meets, ← c .before .before .refusal .ensures, ne-eqb _ 0 (c .before .if2 .taken), c .before .before .before .before .before .choose .ensures)
+array-read-choose : tie.Need-array-read-choose
+array-read-choose c = search needs
 
-carried-requires : tie.Need-carried-requires
-carried-requires c κs = search needs
+choose-requires : tie.Need-choose-requires
+choose-requires c κs = search needs
+
+refused-requires-3 : tie.Need-refused-requires-3
+refused-requires-3 c κs = search needs
+
+returns-2 : tie.Need-returns-2
+returns-2 c = let s = c .before .before .before .before .before .before .before .before .before .before .before .before .before .before .before .before in
+    let k = s .args .t1 in
+    let e : isSound k ≡ true = sym (c .before .before .before .before .before .before .tested .ensures ∙ test-same k (sizes s)) ∙ not-false _ (c .before .before .before .before .before .if1 .left) in
+    let n = c .before .before .before .refused2 .ensures ∙ ap (refusedOf (said (s .args .c))) (c .before .before .before .before .looked-at .ensures) in
+    rw (c .refused3 .ensures, c .before .choose .ensures) (refused-end k (said (s .args .c)) (c .before .before .before .refused2 .result) e n (c .before .before .if2 .taken))
+
+created-requires : tie.Need-created-requires
+created-requires c κs = search needs
+
+declared-requires : tie.Need-declared-requires
+declared-requires c κs = search needs
+
+begun-requires : tie.Need-begun-requires
+begun-requires c κs = search needs
+
+slept-requires : tie.Need-slept-requires
+slept-requires c κs = search needs
+
+yielded-requires : tie.Need-yielded-requires
+yielded-requires c κs = search needs
+
+waking-requires : tie.Need-waking-requires
+waking-requires c κs = search needs
+
+held-by-runner-requires : tie.Need-held-by-runner-requires
+held-by-runner-requires c κs = search needs
+
+closing-requires : tie.Need-closing-requires
+closing-requires c κs = search needs
+
+closed-requires : tie.Need-closed-requires
+closed-requires c κs = search needs
+
+held-by-runner-requires-2 : tie.Need-held-by-runner-requires-2
+held-by-runner-requires-2 c κs = search needs
+
+awaiting-requires : tie.Need-awaiting-requires
+awaiting-requires c κs = search needs
+
+closed-requires-2 : tie.Need-closed-requires-2
+closed-requires-2 c κs = search needs
+
+advanced-requires : tie.Need-advanced-requires
+advanced-requires c κs = search needs
 
 returns-3 : tie.Need-returns-3
-unfolding steppedOf
-returns-3 c = let k = c .before .before .before .before .before .before .before .args .t1 in
-    let e : isSound k ≡ true = sym (c .before .before .before .before .sound .ensures) ∙ not-false _ (c .before .before .before .if1 .left) in
-    let meets = step-meets k (said (c .before .before .before .before .before .before .before .args .c)) e in
-    rw (c .carried .ensures, ← meets, ← c .before .before .refusal .ensures, eq-eqb _ 0 (c .before .if2 .left))
+unfolding carriedOf
+returns-3 c = let s = c .before .before .before .before .before .before .before .before .before .before .before .before .before .before .before .before in
+    let k = s .args .t1 in
+    let e : isSound k ≡ true = sym (c .before .before .before .before .before .before .tested .ensures ∙ test-same k (sizes s)) ∙ not-false _ (c .before .before .before .before .before .if1 .left) in
+    let n = c .before .before .before .refused2 .ensures ∙ ap (refusedOf (said (s .args .c))) (c .before .before .before .before .looked-at .ensures) in
+    rw (c .created .ensures, ← accepted-end k (said (s .args .c)) (c .before .before .before .refused2 .result) e n (c .before .before .if2 .left), c .before .match .keys1)
+
+returns-4 : tie.Need-returns-4
+unfolding carriedOf
+returns-4 c = let s = c .before .before .before .before .before .before .before .before .before .before .before .before .before .before .before .before in
+    let k = s .args .t1 in
+    let e : isSound k ≡ true = sym (c .before .before .before .before .before .before .tested .ensures ∙ test-same k (sizes s)) ∙ not-false _ (c .before .before .before .before .before .if1 .left) in
+    let n = c .before .before .before .refused2 .ensures ∙ ap (refusedOf (said (s .args .c))) (c .before .before .before .before .looked-at .ensures) in
+    rw (c .declared .ensures, ← accepted-end k (said (s .args .c)) (c .before .before .before .refused2 .result) e n (c .before .before .if2 .left), c .before .match .keys2)
+
+returns-5 : tie.Need-returns-5
+unfolding carriedOf
+returns-5 c = let s = c .before .before .before .before .before .before .before .before .before .before .before .before .before .before .before .before in
+    let k = s .args .t1 in
+    let e : isSound k ≡ true = sym (c .before .before .before .before .before .before .tested .ensures ∙ test-same k (sizes s)) ∙ not-false _ (c .before .before .before .before .before .if1 .left) in
+    let n = c .before .before .before .refused2 .ensures ∙ ap (refusedOf (said (s .args .c))) (c .before .before .before .before .looked-at .ensures) in
+    rw (c .begun .ensures, ← accepted-end k (said (s .args .c)) (c .before .before .before .refused2 .result) e n (c .before .before .if2 .left), c .before .match .keys3)
+
+returns-6 : tie.Need-returns-6
+unfolding carriedOf
+returns-6 c = let s = c .before .before .before .before .before .before .before .before .before .before .before .before .before .before .before .before .before .before in
+    let k = s .args .t1 in
+    let e : isSound k ≡ true = sym (c .before .before .before .before .before .before .before .before .tested .ensures ∙ test-same k (sizes s)) ∙ not-false _ (c .before .before .before .before .before .before .before .if1 .left) in
+    let n = c .before .before .before .before .before .refused2 .ensures ∙ ap (refusedOf (said (s .args .c))) (c .before .before .before .before .before .before .looked-at .ensures) in
+    rw (c .slept .ensures, ← accepted-end k (said (s .args .c)) (c .before .before .before .before .before .refused2 .result) e n (c .before .before .before .before .if2 .left), c .before .before .before .match .keys4, lt-ltb _ _ (c .before .if3 .taken))
+
+returns-7 : tie.Need-returns-7
+unfolding carriedOf
+returns-7 c = let s = c .before .before .before .before .before .before .before .before .before .before .before .before .before .before .before .before .before .before in
+    let k = s .args .t1 in
+    let e : isSound k ≡ true = sym (c .before .before .before .before .before .before .before .before .tested .ensures ∙ test-same k (sizes s)) ∙ not-false _ (c .before .before .before .before .before .before .before .if1 .left) in
+    let n = c .before .before .before .before .before .refused2 .ensures ∙ ap (refusedOf (said (s .args .c))) (c .before .before .before .before .before .before .looked-at .ensures) in
+    rw (c .yielded .ensures, ← accepted-end k (said (s .args .c)) (c .before .before .before .before .before .refused2 .result) e n (c .before .before .before .before .if2 .left), c .before .before .before .match .keys4, le-ltb _ _ (c .before .if3 .left))
+
+returns-8 : tie.Need-returns-8
+unfolding carriedOf
+returns-8 c = let s = c .before .before .before .before .before .before .before .before .before .before .before .before .before .before .before .before in
+    let k = s .args .t1 in
+    let e : isSound k ≡ true = sym (c .before .before .before .before .before .before .tested .ensures ∙ test-same k (sizes s)) ∙ not-false _ (c .before .before .before .before .before .if1 .left) in
+    let n = c .before .before .before .refused2 .ensures ∙ ap (refusedOf (said (s .args .c))) (c .before .before .before .before .looked-at .ensures) in
+    rw (c .waking .ensures, ← accepted-end k (said (s .args .c)) (c .before .before .before .refused2 .result) e n (c .before .before .if2 .left), c .before .match .keys5)
+
+returns-9 : tie.Need-returns-9
+unfolding carriedOf
+returns-9 c = let s = c .before .before .before .before .before .before .before .before .before .before .before .before .before .before .before .before in
+    let k = s .args .t1 in
+    let e : isSound k ≡ true = sym (c .before .before .before .before .before .before .tested .ensures ∙ test-same k (sizes s)) ∙ not-false _ (c .before .before .before .before .before .if1 .left) in
+    let n = c .before .before .before .refused2 .ensures ∙ ap (refusedOf (said (s .args .c))) (c .before .before .before .before .looked-at .ensures) in
+    rw (c .held-by-runner .ensures, ← accepted-end k (said (s .args .c)) (c .before .before .before .refused2 .result) e n (c .before .before .if2 .left), c .before .match .keys6)
+
+returns-10 : tie.Need-returns-10
+unfolding carriedOf
+returns-10 c = let s = c .before .before .before .before .before .before .before .before .before .before .before .before .before .before .before .before in
+    let k = s .args .t1 in
+    let e : isSound k ≡ true = sym (c .before .before .before .before .before .before .tested .ensures ∙ test-same k (sizes s)) ∙ not-false _ (c .before .before .before .before .before .if1 .left) in
+    let n = c .before .before .before .refused2 .ensures ∙ ap (refusedOf (said (s .args .c))) (c .before .before .before .before .looked-at .ensures) in
+    rw (c .closing .ensures, ← accepted-end k (said (s .args .c)) (c .before .before .before .refused2 .result) e n (c .before .before .if2 .left), c .before .match .keys7)
+
+returns-11 : tie.Need-returns-11
+unfolding carriedOf
+returns-11 c = let s = c .before .before .before .before .before .before .before .before .before .before .before .before .before .before .before .before in
+    let k = s .args .t1 in
+    let e : isSound k ≡ true = sym (c .before .before .before .before .before .before .tested .ensures ∙ test-same k (sizes s)) ∙ not-false _ (c .before .before .before .before .before .if1 .left) in
+    let n = c .before .before .before .refused2 .ensures ∙ ap (refusedOf (said (s .args .c))) (c .before .before .before .before .looked-at .ensures) in
+    rw (c .closed .ensures, ← accepted-end k (said (s .args .c)) (c .before .before .before .refused2 .result) e n (c .before .before .if2 .left), c .before .match .keys8)
+
+returns-12 : tie.Need-returns-12
+unfolding carriedOf
+returns-12 c = let s = c .before .before .before .before .before .before .before .before .before .before .before .before .before .before .before .before .before .before in
+    let k = s .args .t1 in
+    let e : isSound k ≡ true = sym (c .before .before .before .before .before .before .before .before .tested .ensures ∙ test-same k (sizes s)) ∙ not-false _ (c .before .before .before .before .before .before .before .if1 .left) in
+    let n = c .before .before .before .before .before .refused2 .ensures ∙ ap (refusedOf (said (s .args .c))) (c .before .before .before .before .before .before .looked-at .ensures) in
+    rw (c .held-by-runner2 .ensures, ← accepted-end k (said (s .args .c)) (c .before .before .before .before .before .refused2 .result) e n (c .before .before .before .before .if2 .left), c .before .before .before .match .keys9, eq-eqb _ 1 (c .before .if4 .taken))
+
+returns-13 : tie.Need-returns-13
+unfolding carriedOf
+returns-13 c = let s = c .before .before .before .before .before .before .before .before .before .before .before .before .before .before .before .before .before .before in
+    let k = s .args .t1 in
+    let e : isSound k ≡ true = sym (c .before .before .before .before .before .before .before .before .tested .ensures ∙ test-same k (sizes s)) ∙ not-false _ (c .before .before .before .before .before .before .before .if1 .left) in
+    let n = c .before .before .before .before .before .refused2 .ensures ∙ ap (refusedOf (said (s .args .c))) (c .before .before .before .before .before .before .looked-at .ensures) in
+    rw (c .awaiting .ensures, ← accepted-end k (said (s .args .c)) (c .before .before .before .before .before .refused2 .result) e n (c .before .before .before .before .if2 .left), c .before .before .before .match .keys9, ne-eqb _ 1 (c .before .if4 .left))
+
+returns-14 : tie.Need-returns-14
+unfolding carriedOf
+returns-14 c = let s = c .before .before .before .before .before .before .before .before .before .before .before .before .before .before .before .before in
+    let k = s .args .t1 in
+    let e : isSound k ≡ true = sym (c .before .before .before .before .before .before .tested .ensures ∙ test-same k (sizes s)) ∙ not-false _ (c .before .before .before .before .before .if1 .left) in
+    let n = c .before .before .before .refused2 .ensures ∙ ap (refusedOf (said (s .args .c))) (c .before .before .before .before .looked-at .ensures) in
+    rw (c .closed2 .ensures, ← accepted-end k (said (s .args .c)) (c .before .before .before .refused2 .result) e n (c .before .before .if2 .left), c .before .match .keys10)
+
+returns-15 : tie.Need-returns-15
+unfolding carriedOf
+returns-15 c = let s = c .before .before .before .before .before .before .before .before .before .before .before .before .before .before .before .before in
+    let k = s .args .t1 in
+    let e : isSound k ≡ true = sym (c .before .before .before .before .before .before .tested .ensures ∙ test-same k (sizes s)) ∙ not-false _ (c .before .before .before .before .before .if1 .left) in
+    let n = c .before .before .before .refused2 .ensures ∙ ap (refusedOf (said (s .args .c))) (c .before .before .before .before .looked-at .ensures) in
+    c .advanced .ensures ∙ (other-op (advancedOf k (s .args .c .value)) (createdOf k (s .args .c .a) (s .args .c .b)) (declaredOf k (s .args .c .a) (s .args .c .b)) (begunOf k) (cond (ltb (k .clock) (s .args .c .value)) (sleptOf k (s .args .c .value)) (yieldedOf k)) (wakeOf k) (heldOf k (s .args .c .a) 1) (closepOf k (s .args .c .a) (s .args .c .b)) (closedOf k 0) (cond (eqb (s .args .c .b) 1) (heldOf k (s .args .c .a) 2) (awaitingOf k (s .args .c .a))) (closedOf k 0) (s .args .c .op) (c .before .match .rest .0 .0 .0 .0 .0 .0 .0 .0 .0 .1) (c .before .match .rest .0 .0 .0 .0 .0 .0 .0 .0 .1) (c .before .match .rest .0 .0 .0 .0 .0 .0 .0 .1) (c .before .match .rest .0 .0 .0 .0 .0 .0 .1) (c .before .match .rest .0 .0 .0 .0 .0 .1) (c .before .match .rest .0 .0 .0 .0 .1) (c .before .match .rest .0 .0 .0 .1) (c .before .match .rest .0 .0 .1) (c .before .match .rest .0 .1) (c .before .match .rest .1) ∙ accepted-end k (said (s .args .c)) (c .before .before .before .refused2 .result) e n (c .before .before .if2 .left))
 
 pub step-spec : {M : Type 1} → statement M
 step-spec =
     tie.close
     (tie.spec
-    element-copy-out-choose
-    choose-requires
-    sound-requires
+    tested-requires
     refused-requires
     returns
-    refusal-requires
+    looked-at-requires
     refused-requires-2
+    array-read-choose
+    choose-requires
+    refused-requires-3
     returns-2
-    carried-requires
-    returns-3)
+    created-requires
+    declared-requires
+    begun-requires
+    slept-requires
+    yielded-requires
+    waking-requires
+    held-by-runner-requires
+    closing-requires
+    closed-requires
+    held-by-runner-requires-2
+    awaiting-requires
+    closed-requires-2
+    advanced-requires
+    returns-3
+    returns-4
+    returns-5
+    returns-6
+    returns-7
+    returns-8
+    returns-9
+    returns-10
+    returns-11
+    returns-12
+    returns-13
+    returns-14
+    returns-15)

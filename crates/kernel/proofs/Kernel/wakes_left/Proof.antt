@@ -13,19 +13,22 @@ sound-requires : tie.Need-sound-requires
 sound-requires c κs = search needs
 
 returns : tie.Need-returns
-returns c = let k = c .before .before .args .t1 in
+returns c =
+    let k = c .before .before .args .t1 in
     let t = c .before .before .args .t .0 in
     let e : isSound k ≡ false = sym (c .before .sound .ensures) ∙ not-true _ (c .if1 .taken) in
     asked-unsound k t e
 
 returns-2 : tie.Need-returns-2
-returns-2 c = let k = c .before .before .before .before .args .t1 in
+returns-2 c =
+    let k = c .before .before .before .before .args .t1 in
     let t = c .before .before .before .before .args .t .0 in
     let e : isSound k ≡ true = sym (c .before .before .before .sound .ensures) ∙ not-false _ (c .before .before .if1 .left) in
     asked-idle k t e (c .if2 .taken)
 
 returns-3 : tie.Need-returns-3
-returns-3 c = let k = c .before .before .before .before .before .before .args .t1 in
+returns-3 c =
+    let k = c .before .before .before .before .before .before .args .t1 in
     let t = c .before .before .before .before .before .before .args .t .0 in
     let e : isSound k ≡ true = sym (c .before .before .before .before .before .sound .ensures) ∙ not-false _ (c .before .before .before .before .if1 .left) in
     asked-past k t e (c .if3 .taken)
@@ -34,7 +37,8 @@ of-task-requires : tie.Need-of-task-requires
 of-task-requires c κs = search needs
 
 returns-4 : tie.Need-returns-4
-returns-4 c = let k = c .before .before .before .before .before .before .before .before .before .args .t1 in
+returns-4 c =
+    let k = c .before .before .before .before .before .before .before .before .before .args .t1 in
     let t = c .before .before .before .before .before .before .before .before .before .args .t .0 in
     let e : isSound k ≡ true = sym (c .before .before .before .before .before .before .before .before .sound .ensures) ∙ not-false _ (c .before .before .before .before .before .before .before .if1 .left) in
     asked-missing k t e (c .before .before .before .before .before .if2 .left) (c .before .before .before .if3 .left) (sym (c .before .of-task .ensures) ∙ c .if4 .taken)
@@ -49,7 +53,8 @@ due-count-requires : tie.Need-due-count-requires
 due-count-requires c κs = search needs
 
 returns-5 : tie.Need-returns-5
-returns-5 c = let k = c .before .before .before .before .before .before .before .before .before .before .before .before .before .before .before .args .t1 in
+returns-5 c =
+    let k = c .before .before .before .before .before .before .before .before .before .before .before .before .before .before .before .args .t1 in
     let t = c .before .before .before .before .before .before .before .before .before .before .before .before .before .before .before .args .t .0 in
     let e : isSound k ≡ true = sym (c .before .before .before .before .before .before .before .before .before .before .before .before .before .before .sound .ensures) ∙ not-false _ (c .before .before .before .before .before .before .before .before .before .before .before .before .before .if1 .left) in
     rw (c .due-count .ensures, c .before .time-of .ensures, c .before .before .before .before .lead-task .ensures) (asked-count k t e (c .before .before .before .before .before .before .before .before .before .before .before .if2 .left) (c .before .before .before .before .before .before .before .before .before .if3 .left) (λ z. c .before .before .before .before .before .before .if4 .left (c .before .before .before .before .before .before .before .of-task .ensures ∙ z)))

@@ -29,14 +29,16 @@ loop-less : tie.Need-loop-less Inv-loop μ-loop
 loop-less c = search needs
 
 loop-again : tie.Need-loop-again Inv-loop μ-loop
-loop-again c = let h = c .before .before in
+loop-again c =
+    let h = c .before .before in
     let a = h .before .args in
     let len : length (a .t2) ≡ 32 = search needs in
     let all : length (a .t1) ≡ 32 = search needs in
     (h .loop .inv .0, h .loop .inv .1 ∙ holders-skip (a .t3) (h .loop .taken) (a .t1) (a .t2) (h .loop .t) (omega arith) (omega arith) (c .if1 .taken))
 
 returns : tie.Need-returns Inv-loop μ-loop
-returns c = let h = c .before .before .before in
+returns c =
+    let h = c .before .before .before in
     let a = h .before .args in
     let len : length (a .t2) ≡ 32 = search needs in
     let all : length (a .t1) ≡ 32 = search needs in
@@ -58,7 +60,8 @@ admits-requires : tie.Need-admits-requires Inv-loop μ-loop
 admits-requires c κs = search needs
 
 returns-2 : tie.Need-returns-2 Inv-loop μ-loop
-returns-2 c = let h = c .before .before .before .before .before in
+returns-2 c =
+    let h = c .before .before .before .before .before in
     let a = h .before .args in
     let len : length (a .t2) ≡ 32 = search needs in
     let all : length (a .t1) ≡ 32 = search needs in
@@ -74,7 +77,8 @@ loop-less-2 : tie.Need-loop-less-2 Inv-loop μ-loop
 loop-less-2 c = search needs
 
 loop-again-2 : tie.Need-loop-again-2 Inv-loop μ-loop
-loop-again-2 c = let h = c .before .before .before .before .before in
+loop-again-2 c =
+    let h = c .before .before .before .before .before in
     let a = h .before .args in
     let len : length (a .t2) ≡ 32 = search needs in
     let all : length (a .t1) ≡ 32 = search needs in
@@ -82,7 +86,8 @@ loop-again-2 c = let h = c .before .before .before .before .before in
     (simp length-set now, h .loop .inv .1 ∙ holders-step (a .t3) (h .loop .taken) (a .t1) (a .t2) (h .loop .t) (omega arith) (omega arith) (c .before .before .before .if1 .left) (c .before .before .if2 .left) (rw (← c .before .admits .ensures) (not-false _ (c .if3 .left))))
 
 returns-3 : tie.Need-returns-3 Inv-loop μ-loop
-returns-3 c = let h = c .before in
+returns-3 c =
+    let h = c .before in
     let a = h .before .args in
     let len : length (a .t2) ≡ 32 = search needs in
     let all : length (a .t1) ≡ 32 = search needs in

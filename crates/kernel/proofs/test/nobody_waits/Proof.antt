@@ -30,13 +30,15 @@ loop-less : tie.Need-loop-less Inv-loop μ-loop
 loop-less c = search needs
 
 loop-again : tie.Need-loop-again Inv-loop μ-loop
-loop-again c = let h = c .before in
+loop-again c =
+    let h = c .before in
     let a = h .before .args in
     let len : length (a .t1) ≡ 8 = search needs in
     (omega arith, h .loop .inv .1 ∙ every-step (λ x. eqb x 0) (a .t1) (h .loop .i) (h .loop .free) (omega arith))
 
 returns : tie.Need-returns Inv-loop μ-loop
-returns c = let h = c .before in
+returns c =
+    let h = c .before in
     let a = h .before .args in
     let len : length (a .t1) ≡ 8 = search needs in
     sym (h .loop .inv .1 ∙ every-done (λ x. eqb x 0) (a .t1) (h .loop .i) (h .loop .free) (omega arith))

@@ -41,13 +41,15 @@ loop-less : tie.Need-loop-less Inv-loop μ-loop
 loop-less c = search needs
 
 loop-again : tie.Need-loop-again Inv-loop μ-loop
-loop-again c = let h = c .before .before .before in
+loop-again c =
+    let h = c .before .before .before in
     let a = h .before .args in
     (omega arith, rw (c .object-fits .ensures, c .before .of-task .ensures) (gather (λ o. objectFits o (at (a .t2) o) (at (a .t3) o) (at (a .base) (at (a .t3) o))) (h .loop .o) (h .loop .fit) (h .loop .inv .1)))
 
 returns : tie.Need-returns Inv-loop μ-loop
 unfolding objectsFit
-returns c = let h = c .before in
+returns c =
+    let h = c .before in
     let a = h .before .args in
     let end : h .loop .o ≡ 8 = omega arith in
     rw end at (h .loop .inv .1)

@@ -42,13 +42,15 @@ loop-less : tie.Need-loop-less Inv-loop μ-loop
 loop-less c = search needs
 
 loop-again : tie.Need-loop-again Inv-loop μ-loop
-loop-again c = let h = c .before .before in
+loop-again c =
+    let h = c .before .before in
     let a = h .before .args in
     (omega arith, ap (λ (x : Bool). x && h .loop .fit) (c .task-fits .ensures) ∙ gather (λ t. taskFits (at (a .t1) t) (at (a .t2) t) (at (a .t3) t) (at (a .t4) t)) (h .loop .t) (h .loop .fit) (h .loop .inv .1))
 
 returns : tie.Need-returns Inv-loop μ-loop
 unfolding tasksFit
-returns c = let h = c .before in
+returns c =
+    let h = c .before in
     let a = h .before .args in
     let end : h .loop .t ≡ 32 = omega arith in
     rw end at (h .loop .inv .1)

@@ -37,13 +37,15 @@ loop-less : tie.Need-loop-less Inv-loop μ-loop
 loop-less c = search needs
 
 loop-again : tie.Need-loop-again Inv-loop μ-loop
-loop-again c = let h = c .before .before in
+loop-again c =
+    let h = c .before .before in
     let a = h .before .args in
     (omega arith, gather (λ t. eqb (at (a .until .now) t) 0 || eqb (at (a .t2) t) 2) (h .loop .t) (h .loop .fit) (h .loop .inv .1))
 
 returns : tie.Need-returns Inv-loop μ-loop
 unfolding timesFit
-returns c = let h = c .before in
+returns c =
+    let h = c .before in
     let a = h .before .args in
     let end : h .loop .t ≡ 32 = omega arith in
     rw end at (h .loop .inv .1)

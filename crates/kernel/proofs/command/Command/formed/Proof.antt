@@ -20,13 +20,13 @@ returns-3 : tie.Need-returns-3
 returns-3 c = rw (c .match .keys3)
 
 returns-4 : tie.Need-returns-4
-returns-4 c = rw (c .match .keys4, lt-ltb (c .before .before .args .self .value) (2 ^ 64) (omega arith)) (sym (and-yes (eqb (c .before .before .args .self .a) 0 && eqb (c .before .before .args .self .b) 0)))
+returns-4 c = rw (c .match .keys4, lt-ltb (c .before .before .before .before .args .self .value) (2 ^ 64) (omega arith)) (sym (and-yes (eqb (c .before .before .before .before .args .self .a) 0 && eqb (c .before .before .before .before .args .self .b) 0)))
 
 returns-5 : tie.Need-returns-5
 returns-5 c = rw (c .match .keys5)
 
 returns-6 : tie.Need-returns-6
-returns-6 c = rw (c .match .keys6) (sym (and-yes (eqb (c .before .before .args .self .a) 0 && eqb (c .before .before .args .self .b) 0)))
+returns-6 c = rw (c .match .keys6) (sym (and-yes (eqb (c .before .before .before .before .args .self .a) 0 && eqb (c .before .before .before .before .args .self .b) 0)))
 
 returns-7 : tie.Need-returns-7
 returns-7 c = rw (c .match .keys7)
@@ -44,7 +44,7 @@ returns-11 : tie.Need-returns-11
 returns-11 c = rw (c .match .keys11)
 
 returns-12 : tie.Need-returns-12
-returns-12 c = not-formed (said (c .before .before .args .self)) (unknown-op (c .before .before .args .self .op) (c .match .rest .0 .0 .0 .0 .0 .0 .0 .0 .0 .0 .1) (c .match .rest .0 .0 .0 .0 .0 .0 .0 .0 .0 .1) (c .match .rest .0 .0 .0 .0 .0 .0 .0 .0 .1) (c .match .rest .0 .0 .0 .0 .0 .0 .0 .1) (c .match .rest .0 .0 .0 .0 .0 .0 .1) (c .match .rest .0 .0 .0 .0 .0 .1) (c .match .rest .0 .0 .0 .0 .1) (c .match .rest .0 .0 .0 .1) (c .match .rest .0 .0 .1) (c .match .rest .0 .1) (c .match .rest .1))
+returns-12 c = not-formed (said (c .before .before .before .before .args .self)) (unknown-op (c .before .before .before .before .args .self .op) (c .match .rest .0 .0 .0 .0 .0 .0 .0 .0 .0 .0 .1) (c .match .rest .0 .0 .0 .0 .0 .0 .0 .0 .0 .1) (c .match .rest .0 .0 .0 .0 .0 .0 .0 .0 .1) (c .match .rest .0 .0 .0 .0 .0 .0 .0 .1) (c .match .rest .0 .0 .0 .0 .0 .0 .1) (c .match .rest .0 .0 .0 .0 .0 .1) (c .match .rest .0 .0 .0 .0 .1) (c .match .rest .0 .0 .0 .1) (c .match .rest .0 .0 .1) (c .match .rest .0 .1) (c .match .rest .1))
 
 pub formed-spec : {M : Type 1} → statement M
 formed-spec =

@@ -20,7 +20,8 @@ choose-requires c κs = search needs
 
 returns : tie.Need-returns
 unfolding refusedOf
-returns c = let s = c .before .before .before .args .self in
+returns c =
+    let s = c .before .before .before .args .self in
     c .choose .ensures ∙ (ap (λ (b : Bool). cond (not b) 4 (c .before .before .refused-formed .result)) (c .before .formed .ensures)
     ∙ ap (λ (n : ℕ). cond (not (formed (said s))) 4 n) (c .before .before .refused-formed .ensures))
 

@@ -1,0 +1,45 @@
+-- `looked_at` meets its contract: each cell is looked up as the definition says. Assumes nothing.
+use borrow.Author.Needs.{needs}
+use Rattle.kernel.proofs.command.looked_at.Statement.{statement}
+use Rattle.kernel.proofs.command.looked_at.Tie as tie
+
+array-read-t15 : tie.Need-array-read-t15
+array-read-t15 c = search needs
+
+of-task-requires : tie.Need-of-task-requires
+of-task-requires c κs = search needs
+
+of-task-requires-2 : tie.Need-of-task-requires-2
+of-task-requires-2 c κs = search needs
+
+of-task-requires-3 : tie.Need-of-task-requires-3
+of-task-requires-3 c κs = search needs
+
+of-task-requires-4 : tie.Need-of-task-requires-4
+of-task-requires-4 c κs = search needs
+
+of-object-requires : tie.Need-of-object-requires
+of-object-requires c κs = search needs
+
+of-object-requires-2 : tie.Need-of-object-requires-2
+of-object-requires-2 c κs = search needs
+
+holders-requires : tie.Need-holders-requires
+holders-requires c κs = search needs
+
+returns : tie.Need-returns
+returns c = rw (c .holders .ensures, c .before .of-object2 .ensures, c .before .before .of-object .ensures, c .before .before .before .of-task4 .ensures, c .before .before .before .before .of-task3 .ensures, c .before .before .before .before .before .of-task2 .ensures, c .before .before .before .before .before .before .of-task .ensures)
+
+pub looked-at-spec : {M : Type 1} → statement M
+looked-at-spec =
+    tie.close
+    (tie.spec
+    array-read-t15
+    of-task-requires
+    of-task-requires-2
+    of-task-requires-3
+    of-task-requires-4
+    of-object-requires
+    of-object-requires-2
+    holders-requires
+    returns)
