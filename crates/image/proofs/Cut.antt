@@ -1,0 +1,109 @@
+-- A number above 255 is out of range wherever it stands, so a command that has one is refused as one of op 0 is: by 4, after 1 and before all
+-- else. The idea: no row of the rules' table of operands has a number above 31 in a or b. Assumes nothing.
+use Prim.Native.Nat.{ℕ, _≤_, _<_}
+use native.Mathlib.Omega.{arith}
+use mathlib.Core.Path.{_≡_, refl, sym, ap, _∙_}
+use mathlib.Core.Logic.{_≢_}
+use mathlib.Core.Bool.{Bool, true, false, cond, not, _&&_, true≢false}
+use mathlib.Core.List.{List, [], _∷_}
+use lib.Dec.{eqb, leb}
+use borrow.Author.Tests.{ne-eqb, lt-leb, leb-false}
+use Rattle.rules.specs.Line.{within}
+use Rattle.rules.specs.Machine.{Machine, Command, running}
+use Rattle.rules.specs.Refusals.{Operands, unused, barrier, fits, operands, formed, refusal}
+use Rattle.rules.specs.Run.{next, released, answer, question}
+use Rattle.rules.proofs.Lists.{all-at}
+use Rattle.kernel.specs.declared.Kernel.{Kernel}
+use Rattle.kernel.specs.declared.Left.{Left}
+use Rattle.kernel.specs.declared.Stepped.{Stepped}
+use Rattle.kernel.specs.Public.{stepOf, leftOf}
+use Rattle.image.specs.Calls.{told, fitted, fittedTask}
+
+and-false : (b : Bool) → b && false ≡ false
+and-false true = refl
+and-false false = refl
+
+-- the rows of the table; an op above 11 has the row of no op
+abbrev rows : List Operands
+rows =
+    operands 0 ∷ operands 1 ∷ operands 2 ∷ operands 3 ∷ operands 4 ∷ operands 5 ∷ operands 6 ∷ operands 7 ∷ operands 8 ∷ operands 9 ∷ operands 10
+    ∷ operands 11 ∷ []
+
+-- what fits no such operand
+module _ (n : ℕ) (h : 255 < n) where
+  no-unused : fits unused n ≡ false
+  no-unused = ne-eqb n 0 (λ e. omega arith)
+
+  up-to : (lo hi : ℕ) → hi < 256 → within lo hi n ≡ false
+  up-to lo hi k = rw (lt-leb n hi (omega arith)) (and-false (leb lo n))
+
+  no-barrier : fits barrier n ≡ false
+  no-barrier = lt-leb n 1 (omega arith)
+
+  wide-a : (op : ℕ) → fits (operands op .a) n ≡ false
+  wide-a op =
+      let u = no-unused in
+      let t = up-to 1 31 (omega arith) in
+      let o = up-to 1 7 (omega arith) in
+      all-at (λ (r : Operands). fits (r .a) n ≡ false) rows op (operands 12) u (u, (t, (o, (u, (u, (u, (u, (o, (o, (o, (o, (o, tt))))))))))))
+
+  wide-b : (op : ℕ) → fits (operands op .b) n ≡ false
+  wide-b op =
+      let u = no-unused in
+      let p = up-to 1 15 (omega arith) in
+      let b = no-barrier in
+      all-at (λ (r : Operands). fits (r .b) n ≡ false) rows op (operands 12) u (u, (p, (p, (u, (u, (u, (u, (u, (b, (u, (b, (u, tt))))))))))))
+
+-- The command has a number above 255, so it is not formed.
+unformed : (c : Command) → leb (c .op) 255 && leb (c .a) 255 && leb (c .b) 255 ≡ false → formed c ≡ false
+unformed c = go (leb (c .op) 255) refl (leb (c .a) 255) refl (leb (c .b) 255) refl
+  where
+    go : (x : Bool) → leb (c .op) 255 ≡ x → (y : Bool) → leb (c .a) 255 ≡ y → (z : Bool) → leb (c .b) 255 ≡ z → x && y && z ≡ false → formed c ≡ false
+    go false e y f z g q = rw (up-to (c .op) (leb-false (c .op) 255 e) 1 11 (omega arith))
+    go true e false f z g q = rw (wide-a (c .a) (leb-false (c .a) 255 f) (c .op), and-false)
+    go true e true f false g q = rw (wide-b (c .b) (leb-false (c .b) 255 g) (c .op), and-false)
+    go true e true f true g q = absurd (true≢false q)
+
+-- Two commands that are not formed are answered alike, by 4.
+module _ (m : Machine) (c : Command) (h : formed c ≡ false) where
+  by-4 : refusal m c ≡ 4
+  unfolding refusal
+  by-4 = rw h
+
+  stays : next m c ≡ m
+  unfolding next
+  stays = rw by-4
+
+  answers-4 : answer m c ≡ record { code = 4; running = running m; released = 0 }
+  unfolding answer released
+  answers-4 = rw (stays, by-4)
+
+alike : (k : Kernel) (c d : Command) → formed c ≡ false → formed d ≡ false → stepOf k c ≡ stepOf k d
+unfolding stepOf
+alike k c d h j = rw (stays _ c h, stays _ d j, answers-4 _ c h, answers-4 _ d j)
+
+-- The kernel's step of what fits is the step of the command itself.
+fitted-step : (k : Kernel) (c : Command) → stepOf k (fitted c) ≡ stepOf k c
+fitted-step k c = go (leb (c .op) 255 && leb (c .a) 255 && leb (c .b) 255) refl
+  where
+    go : (b : Bool) → leb (c .op) 255 && leb (c .a) 255 && leb (c .b) 255 ≡ b → stepOf k (cond b c (told 0 0 0 0)) ≡ stepOf k c
+    go true e = refl
+    go false e = alike k (told 0 0 0 0) c refl (unformed c e)
+
+pub asked : {r : Stepped} {k : Kernel} {d : Command} (j : Kernel) (c : Command) → r ≡ stepOf k d → k ≡ j → d ≡ fitted c → r ≡ stepOf j c
+asked {d = d} j c e p q = e ∙ ap (λ (i : Kernel). stepOf i d) p ∙ ap (λ (b : Command). stepOf j b) q ∙ fitted-step j c
+
+-- And so of the question.
+out-of-range : (k : Kernel) (t : ℕ) → 255 < t → leftOf k 0 ≡ leftOf k t
+unfolding leftOf question
+out-of-range k t h = rw (up-to t h 1 31 (omega arith))
+
+fitted-left : (k : Kernel) (t : ℕ) → leftOf k (fittedTask t) ≡ leftOf k t
+fitted-left k t = go (leb t 255) refl
+  where
+    go : (b : Bool) → leb t 255 ≡ b → leftOf k (cond b t 0) ≡ leftOf k t
+    go true e = refl
+    go false e = out-of-range k t (leb-false t 255 e)
+
+pub asked-left : {r : Left} {k : Kernel} {u : ℕ} (j : Kernel) (t : ℕ) → r ≡ leftOf k u → k ≡ j → u ≡ fittedTask t → r ≡ leftOf j t
+asked-left {u = u} j t e p q = e ∙ ap (λ (i : Kernel). leftOf i u) p ∙ ap (λ (v : ℕ). leftOf j v) q ∙ fitted-left j t

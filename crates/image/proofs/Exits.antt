@@ -1,0 +1,103 @@
+-- What a call answers and leaves, by its exits: a wrong length, bytes that are not clean, a refusal, an accepted step. Bytes that are clean
+-- but hold no sound state go through the kernel, which refuses with 1. Assumes nothing.
+use mathlib.Core.Path.{_≡_, refl, sym, ap, _∙_}
+use mathlib.Core.Logic.{_≢_}
+use mathlib.Core.List.{List}
+use mathlib.Core.Bool.{Bool, true, false, cond, _&&_}
+use Prim.Native.Nat.{ℕ}
+use lib.ListN.{length}
+use native.Mathlib.Omega.{arith}
+use lib.Dec.{eqb}
+use borrow.Author.Tests.{eq-eqb, ne-eqb}
+use Rattle.rules.specs.Machine.{Command}
+use Rattle.kernel.specs.declared.Kernel.{Kernel}
+use Rattle.kernel.specs.declared.Stepped.{Stepped}
+use Rattle.kernel.specs.declared.Left.{Left}
+use Rattle.kernel.specs.Public.{isSound, report, shape, stepOf, leftOf}
+use Rattle.image.specs.Layout.{imageOf, kernelOf, clean, isImage}
+use Rattle.image.specs.Calls.{packed, packedLeft, stepAnswer, stepImage, leftAnswer}
+
+-- Bytes that are no image.
+short : (s : List ℕ) → length s ≢ 512 → isImage s ≡ false
+unfolding isImage
+short s h = rw (ne-eqb (length s) 512 h)
+
+stained : (s : List ℕ) → clean s ≡ false → isImage s ≡ false
+unfolding isImage
+stained s h = go (eqb (length s) 512)
+  where
+    go : (b : Bool) → b && clean s && isSound (kernelOf s) ≡ false
+    go true = rw h
+    go false = refl
+
+module _ (s : List ℕ) (c : Command) where
+  none : isImage s ≡ false → (1 ≡ stepAnswer s c) × (s ≡ stepImage s c)
+  unfolding stepAnswer stepImage
+  none h = (rw h, rw h)
+
+  pub wrong-length : length s ≢ 512 → (1 ≡ stepAnswer s c) × (s ≡ stepImage s c)
+  wrong-length h = none (short s h)
+
+  pub not-clean : clean s ≡ false → (1 ≡ stepAnswer s c) × (s ≡ stepImage s c)
+  not-clean h = none (stained s h)
+
+-- Clean bytes of the right length are an image exactly if their state is sound.
+image-sound : (s : List ℕ) → length s ≡ 512 → clean s ≡ true → isImage s ≡ isSound (kernelOf s)
+unfolding isImage
+image-sound s l h = rw (eq-eqb (length s) 512 l, h)
+
+-- A state that is not sound is refused with 1.
+unsound : (k : Kernel) (c : Command) → isSound k ≡ false → stepOf k c ≡ report k shape
+unfolding stepOf
+unsound k c e = rw e
+
+unsound-left : (k : Kernel) (t : ℕ) → isSound k ≡ false → leftOf k t ≡ record { code = 1; left = 0 }
+unfolding leftOf
+unsound-left k t e = rw e
+
+-- The kernel's step, sound or not, is what the call answers.
+module _ (s : List ℕ) (c : Command) (l : length s ≡ 512) (h : clean s ≡ true) where
+  pub answered : packed (stepOf (kernelOf s) c .answer) ≡ stepAnswer s c
+  unfolding stepAnswer
+  answered = rw (image-sound s l h) (go (isSound (kernelOf s)) refl)
+    where
+      go : (b : Bool) → isSound (kernelOf s) ≡ b → packed (stepOf (kernelOf s) c .answer) ≡ cond b (packed (stepOf (kernelOf s) c .answer)) 1
+      go true e = refl
+      go false e = rw (unsound (kernelOf s) c e)
+
+  pub refused : stepOf (kernelOf s) c .answer .code ≢ 0 → s ≡ stepImage s c
+  unfolding stepImage
+  refused n = rw (ne-eqb (stepOf (kernelOf s) c .answer .code) 0 n) (go (isImage s))
+    where
+      go : (b : Bool) → s ≡ cond (b && false) (imageOf (stepOf (kernelOf s) c .next)) s
+      go true = refl
+      go false = refl
+
+  pub accepted : stepOf (kernelOf s) c .answer .code ≡ 0 → imageOf (stepOf (kernelOf s) c .next) ≡ stepImage s c
+  unfolding stepImage
+  accepted e = rw (image-sound s l h, eq-eqb (stepOf (kernelOf s) c .answer .code) 0 e) (go (isSound (kernelOf s)) refl e)
+    where
+      go : (b : Bool) → isSound (kernelOf s) ≡ b → stepOf (kernelOf s) c .answer .code ≡ 0
+          → imageOf (stepOf (kernelOf s) c .next) ≡ cond (b && true) (imageOf (stepOf (kernelOf s) c .next)) s
+      go true q e = refl
+      go false q e = let z : _≡_ {A = ℕ} 1 0 = rw (unsound (kernelOf s) c q) at e in absurd (omega arith)
+
+-- The question.
+module _ (s : List ℕ) (t : ℕ) where
+  no-question : isImage s ≡ false → 1 ≡ leftAnswer s t
+  unfolding leftAnswer
+  no-question h = rw h
+
+  pub wrong-length-left : length s ≢ 512 → 1 ≡ leftAnswer s t
+  wrong-length-left h = no-question (short s h)
+
+  pub not-clean-left : clean s ≡ false → 1 ≡ leftAnswer s t
+  not-clean-left h = no-question (stained s h)
+
+  pub answered-left : length s ≡ 512 → clean s ≡ true → packedLeft (leftOf (kernelOf s) t) ≡ leftAnswer s t
+  unfolding leftAnswer
+  answered-left l h = rw (image-sound s l h) (go (isSound (kernelOf s)) refl)
+    where
+      go : (b : Bool) → isSound (kernelOf s) ≡ b → packedLeft (leftOf (kernelOf s) t) ≡ cond b (packedLeft (leftOf (kernelOf s) t)) 1
+      go true e = refl
+      go false e = rw (unsound-left (kernelOf s) t e)

@@ -1,0 +1,6 @@
+mod Copying
+mod Numbers
+mod Cut
+mod Exits
+mod RoundTrip
+mod Theorems

@@ -1,0 +1,235 @@
+// A state and its 512 bytes: writing and reading them. Loops copy one part each; LLVM makes memory copies of them.
+ghost use mathlib.Core.Path.{_≡_};
+ghost use mathlib.Core.List.{_++_, _∷_, []};
+ghost use Prim.Native.Nat.{_+_, _≤_, _<_};
+ghost use lib.ListN.{length, take, drop};
+ghost use Rattle.rules.specs.Line.{one-if};
+ghost use Rattle.line.specs.Tables.{zeros};
+ghost use Rattle.tape.specs.Form.{le8, ofLe};
+ghost use Rattle.image.specs.Layout.{bytesOf, numbersOf, imageOf, part, kernelOf, clean};
+use kernel::Kernel;
+
+// ---- Writing: what is written so far grows at its end.
+
+fn put_byte(s: &mut [u8; 512], at: usize, x: u8)
+    requires { ⌜ (at < 512) × (length (now s) ≡ 512) ⌝ }
+    ensures { λ _. ⌜ (length (now (s .exit)) ≡ 512) × (take (at + 1) (now (s .exit)) ≡ take at (now (s .entry)) ++ x ∷ []) ⌝ }
+{
+    s[at] = x;
+}
+
+fn put8(s: &mut [u8; 512], at: usize, v: [u8; 8])
+    requires { ⌜ (at + 8 ≤ 512) × (length (now s) ≡ 512) ⌝ }
+    ensures { λ _. ⌜ (length (now (s .exit)) ≡ 512) × (take (at + 8) (now (s .exit)) ≡ take at (now (s .entry)) ++ v) ⌝ }
+{
+    let mut i: usize = 0;
+    while i < 8 {
+        put_byte(s, at + i, v[i]);
+        i += 1;
+    }
+}
+
+fn put32(s: &mut [u8; 512], at: usize, v: [u8; 32])
+    requires { ⌜ (at + 32 ≤ 512) × (length (now s) ≡ 512) ⌝ }
+    ensures { λ _. ⌜ (length (now (s .exit)) ≡ 512) × (take (at + 32) (now (s .exit)) ≡ take at (now (s .entry)) ++ v) ⌝ }
+{
+    let mut i: usize = 0;
+    while i < 32 {
+        put_byte(s, at + i, v[i]);
+        i += 1;
+    }
+}
+
+// A number's 8 bytes, least first.
+fn bytes_of(x: u64) -> [u8; 8]
+    ensures { λ r. ⌜ r ≡ le8 x ⌝ }
+{
+    [
+        (x % 256) as u8,
+        (x / 256 % 256) as u8,
+        (x / 65536 % 256) as u8,
+        (x / 16777216 % 256) as u8,
+        (x / 4294967296 % 256) as u8,
+        (x / 1099511627776 % 256) as u8,
+        (x / 281474976710656 % 256) as u8,
+        (x / 72057594037927936 % 256) as u8,
+    ]
+}
+
+// The times, from byte 256 to the end.
+fn put_times(s: &mut [u8; 512], v: [u64; 32])
+    requires { ⌜ length (now s) ≡ 512 ⌝ }
+    ensures { λ _. ⌜ now (s .exit) ≡ take 256 (now (s .entry)) ++ bytesOf v ⌝ }
+{
+    let mut i: usize = 0;
+    while i < 32 {
+        put8(s, 256 + 8 * i, bytes_of(v[i]));
+        i += 1;
+    }
+}
+
+fn flag(b: bool) -> u8
+    ensures { λ r. ⌜ r ≡ one-if b ⌝ }
+{
+    if b { 1 } else { 0 }
+}
+
+pub fn encode(k: Kernel) -> [u8; 512]
+    ensures { λ r. ⌜ r ≡ imageOf k ⌝ }
+{
+    let mut s = [0u8; 512];
+    put8(&mut s, 0, bytes_of(k.clock));
+    put8(&mut s, 8, [flag(k.started), 0, 0, 0, 0, 0, 0, 0]);
+    let ceiling = k.ceiling;
+    put8(&mut s, 16, ceiling);
+    let waiter = k.waiter;
+    put8(&mut s, 24, waiter);
+    let base = k.base;
+    put32(&mut s, 32, base);
+    let ready = k.ready;
+    put32(&mut s, 64, ready);
+    let delayed = k.delayed;
+    put32(&mut s, 96, delayed);
+    let held = k.held;
+    put32(&mut s, 128, held);
+    let way = k.way;
+    put32(&mut s, 160, way);
+    put32(&mut s, 192, [0; 32]);
+    put32(&mut s, 224, [0; 32]);
+    let until = k.until;
+    put_times(&mut s, until);
+    s
+}
+
+// ---- Reading
+
+fn wide(x: u8) -> u64
+    ensures { λ r. ⌜ (r ≡ x) × (r < 256) ⌝ }
+{
+    x as u64
+}
+
+fn get_number(s: &[u8], at: usize) -> u64
+    requires { ⌜ at + 8 ≤ length (now s) ⌝ }
+    ensures { λ r. ⌜ r ≡ ofLe (now (s .entry)) at ⌝ }
+{
+    let b0 = wide(s[at]);
+    let b1 = wide(s[at + 1]);
+    let b2 = wide(s[at + 2]);
+    let b3 = wide(s[at + 3]);
+    let b4 = wide(s[at + 4]);
+    let b5 = wide(s[at + 5]);
+    let b6 = wide(s[at + 6]);
+    let b7 = wide(s[at + 7]);
+    b0
+        + 256 * b1
+        + 65536 * b2
+        + 16777216 * b3
+        + 4294967296 * b4
+        + 1099511627776 * b5
+        + 281474976710656 * b6
+        + 72057594037927936 * b7
+}
+
+fn get8(s: &[u8], at: usize) -> [u8; 8]
+    requires { ⌜ at + 8 ≤ length (now s) ⌝ }
+    ensures { λ r. ⌜ r ≡ part 8 at (now (s .entry)) ⌝ }
+{
+    let mut r = [0u8; 8];
+    let mut i: usize = 0;
+    while i < 8 {
+        r[i] = s[at + i];
+        i += 1;
+    }
+    r
+}
+
+fn get32(s: &[u8], at: usize) -> [u8; 32]
+    requires { ⌜ at + 32 ≤ length (now s) ⌝ }
+    ensures { λ r. ⌜ r ≡ part 32 at (now (s .entry)) ⌝ }
+{
+    let mut r = [0u8; 32];
+    let mut i: usize = 0;
+    while i < 32 {
+        r[i] = s[at + i];
+        i += 1;
+    }
+    r
+}
+
+fn get_times(s: &[u8]) -> [u64; 32]
+    requires { ⌜ length (now s) ≡ 512 ⌝ }
+    ensures { λ r. ⌜ r ≡ numbersOf 32 (drop 256 (now (s .entry))) ⌝ }
+{
+    let mut r = [0u64; 32];
+    let mut i: usize = 0;
+    while i < 32 {
+        r[i] = get_number(s, 256 + 8 * i);
+        i += 1;
+    }
+    r
+}
+
+pub fn decode(s: &[u8]) -> Kernel
+    requires { ⌜ length (now s) ≡ 512 ⌝ }
+    ensures { λ r. ⌜ r ≡ kernelOf (now (s .entry)) ⌝ }
+{
+    let clock = get_number(s, 0);
+    let started = s[8] == 1;
+    let ceiling = get8(s, 16);
+    let waiter = get8(s, 24);
+    let base = get32(s, 32);
+    let ready = get32(s, 64);
+    let delayed = get32(s, 96);
+    let held = get32(s, 128);
+    let way = get32(s, 160);
+    let until = get_times(s);
+    Kernel {
+        base,
+        ready,
+        delayed,
+        held,
+        way,
+        until,
+        ceiling,
+        waiter,
+        clock,
+        started,
+    }
+}
+
+// ---- The bytes that the state does not use
+
+// All of them are looked at, found or not: without a way out of the loop LLVM looks at many at a time.
+fn is_zero(s: &[u8], at: usize, n: usize) -> bool
+    requires { ⌜ at + n ≤ length (now s) ⌝ }
+    ensures { λ r. ⌜ r ≡ zeros (part n at (now (s .entry))) ⌝ }
+{
+    let mut zero = true;
+    let mut i: usize = 0;
+    while i < n {
+        zero = zero & (s[at + i] == 0);
+        i += 1;
+    }
+    zero
+}
+
+pub fn is_clean(s: &[u8]) -> bool
+    requires { ⌜ length (now s) ≡ 512 ⌝ }
+    ensures { λ r. ⌜ r ≡ clean (now (s .entry)) ⌝ }
+{
+    (s[8] <= 1) & is_zero(s, 9, 7) & is_zero(s, 192, 32) & is_zero(s, 224, 32)
+}
+
+// ---- The whole into the bytes that a host lends
+
+pub fn store(image: &mut [u8], v: [u8; 512])
+    requires { ⌜ length (now image) ≡ 512 ⌝ }
+    ensures { λ _. ⌜ now (image .exit) ≡ v ⌝ }
+{
+    let mut i: usize = 0;
+    while i < 512 {
+        image[i] = v[i];
+        i += 1;
+    }
+}

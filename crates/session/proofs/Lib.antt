@@ -1,0 +1,4 @@
+pub mod Short
+pub mod Telling
+pub mod Feeding
+pub mod Theorems

@@ -1,0 +1,3 @@
+// What the programs walk and draw print, piece by piece of their input: all of it but the reading and the writing.
+pub mod tell;
+pub mod walk;

@@ -1,0 +1,87 @@
+-- A reader of commands: a line read where it lies says what it says when it is held, and the commands out of pieces, cut anywhere, are
+-- those of the lines of the whole. Assumes nothing.
+use Prim.Native.Nat.{ℕ, zero, suc, _+_, _-_, _≤_, _<_}
+use native.Mathlib.Omega.{arith}
+use mathlib.Core.Bool.{Bool, true, false, cond}
+use mathlib.Core.Path.{_≡_, refl, ap, sym, _∙_}
+use mathlib.Core.List.{List, [], _∷_, _++_, map}
+use lib.ListN.{length, take, drop}
+use Rattle.rules.specs.Line.{empty}
+use Rattle.text.specs.declared.split.Held.{Held}
+use Rattle.text.specs.declared.split.Cut.{Cut}
+use Rattle.text.specs.declared.command.Spoken.{Spoken}
+use Rattle.text.specs.Words.{before, line-end}
+use Rattle.text.specs.Commands.{command-of, no-command}
+use Rattle.text.specs.Lines.{lines, kept, held-bytes, nothing-held, hold-more, end-from, cut-of, told-of, cuts, tells, last-piece, last-told, holds-after, lines-of-pieces, commands-of-pieces, joined}
+use Rattle.text.proofs.Scan.{word-part}
+use Rattle.text.proofs.Kept.{kept-says}
+use Rattle.text.proofs.Holding.{cut-whole}
+use Rattle.text.proofs.Pieces.{held-more, pieces-whole}
+
+pub end-onward : (s : List ℕ) (at : ℕ) → at ≤ end-from s at
+unfolding end-from
+end-onward s at = omega arith
+
+module _ (h : Held) (s : List ℕ) (at : ℕ) where
+  pub told-whole : (c : Cut) (said : Spoken) (none : Held) → c ≡ cut-of h s at → c .whole ≡ true → said ≡ command-of (held-bytes (c .held)) → none ≡ nothing-held
+      → record { whole = true; said = said; held = none; next = c .next } ≡ told-of h s at
+  unfolding told-of
+  told-whole c said none e w d n = rw (← e, w, d, n)
+
+  pub told-part : (c : Cut) (said : Spoken) → c ≡ cut-of h s at → c .whole ≡ false → said ≡ no-command
+      → record { whole = false; said = said; held = c .held; next = c .next } ≡ told-of h s at
+  unfolding told-of
+  told-part c said e w d = rw (← e, w, d)
+
+  -- nothing held, and the whole line in the piece
+  pub told-at-once : (end : ℕ) (said : Spoken) (none : Held) → length (h .bytes) ≡ 129 → h .count ≡ 0 → end ≡ end-from s at → end < length s
+      → said ≡ command-of (take (end - at) (drop at s)) → none ≡ nothing-held
+      → record { whole = true; said = said; held = none; next = end + 1 } ≡ told-of h s at
+  unfolding end-from
+  told-at-once end said none b z e l d n =
+      let w = before line-end (drop at s) in
+      let p : take (end - at) (drop at s) ≡ w = word-part 10 s at end e in
+      let c = cut-whole h s at end (hold-more h w) e (ap (hold-more h) (sym p)) l in
+      told-whole (record { whole = true; held = hold-more h w; next = end + 1 }) said none c refl
+      (d ∙ ap command-of p ∙ sym (kept-says w) ∙ ap command-of (sym (held-more h w b ∙ ap (λ (k : ℕ). kept (take k (h .bytes) ++ w)) z)))
+      n
+
+-- ---- commands out of pieces
+
+tells-cuts : (n : ℕ) (h : Held) (s : List ℕ) (at : ℕ) → tells n h s at ≡ map command-of (cuts n h s at)
+unfolding tells cuts
+tells-cuts zero h s at = refl
+tells-cuts (suc n) h s at = go (cut-of h s at .whole) refl (tells-cuts n nothing-held s (cut-of h s at .next))
+  where
+    go : (t : Bool) → cut-of h s at .whole ≡ t → tells n nothing-held s (cut-of h s at .next) ≡ map command-of (cuts n nothing-held s (cut-of h s at .next))
+        → tells (suc n) h s at ≡ map command-of (cuts (suc n) h s at)
+    go true t e =
+        let d = told-whole h s at (cut-of h s at) (command-of (held-bytes (cut-of h s at .held))) nothing-held refl t refl refl in
+        rw (← d, t) (ap (λ (l : List Spoken). command-of (held-bytes (cut-of h s at .held)) ∷ l) e)
+    go false t e = let d = told-part h s at (cut-of h s at) no-command refl t refl in rw (← d, t)
+
+last-tells : (w : List ℕ) → last-told w ≡ map command-of (last-piece w)
+unfolding last-told
+last-tells w = go (empty w)
+  where
+    go : (t : Bool) → cond t [] (command-of w ∷ []) ≡ map command-of (cond t [] (w ∷ []))
+    go true = refl
+    go false = refl
+
+map-append : (xs ys : List (List ℕ)) → map command-of (xs ++ ys) ≡ map command-of xs ++ map command-of ys
+map-append [] ys = refl
+map-append (x ∷ xs) ys = ap (λ (l : List Spoken). command-of x ∷ l) (map-append xs ys)
+
+pieces-tell : (ps : List (List ℕ)) (h : Held) → commands-of-pieces h ps ≡ map command-of (lines-of-pieces h ps)
+unfolding commands-of-pieces lines-of-pieces
+pieces-tell [] h = last-tells (held-bytes h)
+pieces-tell (p ∷ ps) h =
+    rw (tells-cuts (suc (length p)) h p 0, pieces-tell ps (holds-after (suc (length p)) h p 0))
+    (sym (map-append (cuts (suc (length p)) h p 0) (lines-of-pieces (holds-after (suc (length p)) h p 0) ps)))
+
+all-kept : (ls : List (List ℕ)) → map command-of (map kept ls) ≡ map command-of ls
+all-kept [] = refl
+all-kept (l ∷ ls) = rw (kept-says l, all-kept ls)
+
+pub pieces-told : (ps : List (List ℕ)) → commands-of-pieces nothing-held ps ≡ map command-of (lines (joined ps))
+pieces-told ps = pieces-tell ps nothing-held ∙ ap (map command-of) (pieces-whole ps) ∙ all-kept (lines (joined ps))

@@ -1,0 +1,13 @@
+-- `text::split::held_none` meets its contract. Assumes nothing.
+use Prim.Native.Nat.{_-_}
+use mathlib.Core.Path.{refl}
+use Rattle.text.specs.Lines.{nothing-held}
+use Rattle.text.proofs.split.held_none.Statement.{statement}
+use Rattle.text.proofs.split.held_none.Tie as tie
+
+returns : tie.Need-returns
+unfolding nothing-held
+returns c = refl
+
+pub held-none-spec : {M : Type 1} → statement M
+held-none-spec = tie.close (tie.spec returns)

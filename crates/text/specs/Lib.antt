@@ -1,0 +1,8 @@
+pub mod Decimal
+pub mod Method
+pub mod Buffer
+pub mod Words
+pub mod Commands
+pub mod Printed
+pub mod FirstLine
+pub mod Lines

@@ -1,0 +1,155 @@
+// Command lines: the command's word and its operands, single blanks, unsigned decimals.
+ghost use mathlib.Core.Bool.{cond};
+ghost use mathlib.Core.Path.{_≡_};
+ghost use Prim.Native.Nat.{_+_, _≤_};
+ghost use lib.ListN.{length, drop};
+ghost use Rattle.text.specs.Words.{same};
+ghost use Rattle.text.specs.Commands.{op-named, uses-a, uses-b, uses-value, decimal-next, operand, command-of, no-command, Reads};
+use crate::decimal::number;
+use crate::word::find;
+use crate::word::same_bytes;
+
+// What a line says: code 0 and a command, or 14 and zeros.
+pub struct Spoken {
+    pub code: u8,
+    pub op: u8,
+    pub a: u8,
+    pub b: u8,
+    pub value: u64,
+}
+
+// A part of a line: whether it has the form, the number there, and the place behind it.
+pub(crate) struct Operand {
+    pub fine: bool,
+    pub value: u64,
+    pub next: usize,
+}
+
+// `op` where the word is `text`, and else the other.
+fn named(word: &[u8], text: &[u8], op: u8, other: u8) -> u8
+    ensures { λ r. ⌜ r ≡ cond (same (now (word .entry)) (now (text .entry))) op other ⌝ }
+{
+    if same_bytes(word, text) {
+        return op;
+    }
+    other
+}
+
+// The op that a word names, 0 for none.
+fn op_of(word: &[u8]) -> u8
+    ensures { λ r. ⌜ r ≡ op-named (now (word .entry)) ⌝ }
+{
+    let done = named(word, b"done", 11, 0);
+    let entry = named(word, b"entry", 10, done);
+    let closef = named(word, b"closef", 9, entry);
+    let closep = named(word, b"closep", 8, closef);
+    let open = named(word, b"open", 7, closep);
+    let advance = named(word, b"advance", 6, open);
+    let wake = named(word, b"wake", 5, advance);
+    let delay = named(word, b"delay", 4, wake);
+    let start = named(word, b"start", 3, delay);
+    let object = named(word, b"object", 2, start);
+    named(word, b"create", 1, object)
+}
+
+fn takes_a(op: u8) -> bool
+    ensures { λ r. ⌜ r ≡ uses-a op ⌝ }
+{
+    (op == 1)
+        | ((op == 2)
+            | ((op == 7) | ((op == 8) | ((op == 9) | ((op == 10) | ((op == 11) | false))))))
+}
+
+fn takes_b(op: u8) -> bool
+    ensures { λ r. ⌜ r ≡ uses-b op ⌝ }
+{
+    (op == 1) | ((op == 2) | ((op == 8) | ((op == 10) | false)))
+}
+
+fn takes_value(op: u8) -> bool
+    ensures { λ r. ⌜ r ≡ uses-value op ⌝ }
+{
+    (op == 4) | ((op == 6) | false)
+}
+
+// A blank and a decimal up to `most`, at a place.
+pub(crate) fn next_decimal(line: &[u8], at: usize, most: u64) -> Operand
+    requires { ⌜ at ≤ length (now line) ⌝ }
+    ensures { λ r. ⌜ Reads (now (line .entry)) r (decimal-next most (drop at (now (line .entry)))) ⌝ }
+{
+    if line.len() <= at {
+        return Operand {
+            fine: false,
+            value: 0,
+            next: at,
+        };
+    }
+    if line[at] != 32 {
+        return Operand {
+            fine: false,
+            value: 0,
+            next: at,
+        };
+    }
+    let from = at + 1;
+    let end = find(line, from, 32);
+    let r = number(&line[from..end], most);
+    Operand {
+        fine: r.fine,
+        value: r.value,
+        next: end,
+    }
+}
+
+// An operand, where it is in use; else 0, and no byte.
+fn take_operand(line: &[u8], at: usize, used: bool, most: u64) -> Operand
+    requires { ⌜ at ≤ length (now line) ⌝ }
+    ensures { λ r. ⌜ Reads (now (line .entry)) r (operand used most (drop at (now (line .entry)))) ⌝ }
+{
+    if used {
+        return next_decimal(line, at, most);
+    }
+    Operand {
+        fine: true,
+        value: 0,
+        next: at,
+    }
+}
+
+pub(crate) fn nothing_said() -> Spoken
+    ensures { λ r. ⌜ r ≡ no-command ⌝ }
+{
+    Spoken {
+        code: 14,
+        op: 0,
+        a: 0,
+        b: 0,
+        value: 0,
+    }
+}
+
+// What a line says, its line end taken off.
+pub fn command(line: &[u8]) -> Spoken
+    ensures { λ r. ⌜ r ≡ command-of (now (line .entry)) ⌝ }
+{
+    if 64 < line.len() {
+        return nothing_said();
+    }
+    let end = find(line, 0, 32);
+    let op = op_of(&line[..end]);
+    let a = take_operand(line, end, takes_a(op), 255);
+    let a_next = a.next;
+    let b = take_operand(line, a_next, takes_b(op), 255);
+    let b_next = b.next;
+    let v = take_operand(line, b_next, takes_value(op), 18446744073709551615);
+    if (1 <= op) & a.fine & b.fine & v.fine & (line.len() <= v.next) {
+        return Spoken {
+            code: 0,
+            op,
+            a: a.value as u8,
+            b: b.value as u8,
+            value: v.value,
+        };
+    }
+    nothing_said()
+}

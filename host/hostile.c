@@ -1,0 +1,257 @@
+/*
+ * A hostile host: a million calls with images of every length 0..1025, random bytes, single spoilt bytes of good images, states that no
+ * command leads to, and operands of every width, at every entry point. Each answer and every byte afterwards are held to judge.h; the bytes
+ * stand between guard bytes, at any alignment. The seed is fixed, so that a run that fails once fails again. Prints one line of counts by code.
+ */
+#include <inttypes.h>
+#include <stdio.h>
+#include <stdlib.h>
+#include "judge.h"
+#include "rvn_image.h"
+
+#define CALLS 1000000
+#define LONGEST 1025
+#define GUARD 64
+
+static uint8_t area[GUARD + 8 + LONGEST + GUARD], expected[sizeof area];
+static uint8_t good[512]; /* an image that is stepped all along */
+static unsigned long counts[14], calls;
+static uint64_t seed = 2647435461u;
+
+static uint64_t draw(void)
+{
+    seed ^= seed << 13;
+    seed ^= seed >> 7;
+    seed ^= seed << 17;
+    return seed;
+}
+
+static uint64_t below(uint64_t n)
+{
+    return (draw() >> 11) % n;
+}
+
+static int one_in(uint64_t n)
+{
+    return below(n) == 0;
+}
+
+/* ---- bytes to lend */
+
+static uint8_t *lend(const uint8_t *bytes, size_t length)
+{
+    uint8_t *image = area + GUARD + below(8);
+    memset(area, (int)below(256), sizeof area);
+    if (bytes)
+        memcpy(image, bytes, length);
+    else
+        for (size_t i = 0; i < length; i++)
+            image[i] = (uint8_t)draw();
+    memcpy(expected, area, sizeof area);
+    return image;
+}
+
+static void judge(const char *what, size_t length, uint32_t answer, struct reply want)
+{
+    uint32_t packed = want.code + 256 * want.running + 65536 * want.released;
+    if (answer != packed || memcmp(area, expected, sizeof area) != 0) {
+        printf("call %lu, %s of %zu bytes: answer %" PRIu32 ", expected %" PRIu32 "%s\n", calls, what, length, answer, packed,
+               memcmp(area, expected, sizeof area) ? ", other bytes than expected" : "");
+        exit(1);
+    }
+    calls++;
+    counts[want.code]++;
+}
+
+/* ---- the entry points, each on bytes that are there already */
+
+static void try_step(uint8_t *image, size_t length, uint64_t op, uint64_t a, uint64_t b, uint64_t value)
+{
+    struct machine m;
+    struct reply want = {1, 0, 0};
+    if (read_image(&m, image, length)) {
+        want = step(&m, op, a, b, value);
+        if (want.code == 0)
+            write_image(&m, expected + (image - area));
+    }
+    judge("step", length, rvn_step(image, length, op, a, b, value), want);
+}
+
+static void try_fresh(uint8_t *image, size_t length)
+{
+    struct machine m;
+    struct reply want = {length != 512, 0, 0};
+    memset(&m, 0, sizeof m);
+    m.ready_count = 1;
+    if (length == 512)
+        write_image(&m, expected + (image - area));
+    judge("fresh", length, rvn_fresh(image, length), want);
+}
+
+static void try_left(uint8_t *image, size_t length, uint64_t task)
+{
+    struct machine m;
+    struct reply want = {1, 0, 0};
+    if (read_image(&m, image, length))
+        want = wakes_left(&m, task);
+    judge("wakes left", length, rvn_wakes_left(image, length, task), want);
+}
+
+/* ---- numbers */
+
+/* Mostly below n; sometimes just outside, or a number whose low byte is in range. */
+static uint64_t operand(uint64_t n)
+{
+    switch (below(60)) {
+    case 0: return n;
+    case 1: return below(256);
+    case 2: return 256 + below(n);
+    case 3: return below(n) | (uint64_t)1 << (8 + below(56));
+    case 4: return one_in(4) ? UINT64_MAX : draw();
+    default: return below(n);
+    }
+}
+
+/* An op that gets a machine somewhere: much set-up before start, and behind it more wakes and closings than delays. */
+static uint64_t likely_op(const uint8_t *image)
+{
+    static const uint8_t before[] = {1, 1, 1, 1, 1, 1, 1, 1, 2, 2, 2, 2, 2, 2, 2, 3};
+    static const uint8_t after[] = {4, 5, 5, 5, 6, 7, 7, 8, 9, 10, 10, 10, 11, 1, 2, 3};
+    return one_in(12) ? operand(13) : (image[8] ? after : before)[below(16)];
+}
+
+static void step_somehow(uint8_t *image, size_t length)
+{
+    uint64_t op = operand(13), a = 0, b = 0, value = 0, clock = 0;
+    if (length == 512) {
+        uint8_t runner = image[64] & 31, holds = image[128 + runner];
+        op = likely_op(image);
+        clock = number_at(image);
+        if (image[8] && holds && one_in(2)) {
+            try_step(image, length, image[160 + runner] == 2 ? 11 : 8 + below(2), holds, 0, 0);
+            return;
+        }
+    }
+    if (op == 1 || op == 2 || ranged(op, 7, 11) || one_in(80))
+        a = operand(op == 1 ? 32 : 8);
+    if (op == 1 || op == 2 || op == 8 || op == 10 || one_in(80))
+        b = operand(op <= 2 ? 16 : 2);
+    if (op == 4 || op == 6 || one_in(80))
+        value = one_in(200) ? draw() : op == 4 ? clock + below(12) - (clock > 3 ? 3 : 0) : below(6);
+    try_step(image, length, op, a, b, value);
+}
+
+static void call_somehow(uint8_t *image, size_t length)
+{
+    uint64_t which = below(10);
+    if (which == 0)
+        try_fresh(image, length);
+    else if (which <= 2)
+        try_left(image, length, operand(32));
+    else
+        step_somehow(image, length);
+}
+
+/* ---- states that are sound, though no commands lead there */
+
+static void forge(uint8_t *image)
+{
+    struct machine m;
+    memset(&m, 0, sizeof m);
+    m.started = 1;
+    m.clock = one_in(3) ? draw() : below(20);
+    m.ready_count = 1;
+    m.tasks[0].created = 1;
+    for (int o = 1; o < 8; o++)
+        m.ceiling[o] = one_in(4) ? 0 : 1 + (int)below(15);
+    int holder[8] = {0};
+    for (int t = 1; t < 32; t++) {
+        struct task *k = &m.tasks[t];
+        int o = 1 + (int)below(7);
+        if (one_in(3))
+            continue;
+        k->created = 1;
+        k->base = 1 + (int)below(15);
+        if (one_in(4)) {
+            uint64_t until = one_in(8) ? draw() : below(30);
+            int i = 0;
+            while (i < m.delayed_count && m.tasks[m.delayed[i]].until <= until)
+                i++;
+            insert(m.delayed, &m.delayed_count, i, t);
+            k->until = until;
+            k->place = DELAYED;
+        } else if (one_in(4) && m.ceiling[o] >= k->base && !m.waiter[o]) {
+            m.waiter[o] = t;
+            k->place = WAITING;
+        } else {
+            if (one_in(2) && m.ceiling[o] >= k->base && !holder[o]++) {
+                k->holds = o;
+                k->way = 1 + (int)below(2);
+            }
+            at_tail(&m, active(&m, t) + (int)below(2), t);
+        }
+    }
+    write_image(&m, image);
+}
+
+int main(void)
+{
+    uint8_t bytes[LONGEST];
+    /* every length, with random bytes and with a good image that is cut or continued */
+    for (size_t length = 0; length <= LONGEST; length++) {
+        memset(bytes, 0, sizeof bytes);
+        forge(bytes);
+        for (int random = 0; random < 2; random++) {
+            const uint8_t *from = random ? NULL : bytes;
+            try_step(lend(from, length), length, RVN_WAKE, 0, 0, 0);
+            try_left(lend(from, length), length, 1 + below(31));
+            try_fresh(lend(from, length), length);
+        }
+    }
+    /* every byte of a good image, spoilt */
+    for (size_t i = 0; i < 512; i++)
+        for (int value = 0; value < 256; value++) {
+            if (value == 0)
+                forge(bytes);
+            memcpy(good, bytes, 512);
+            good[i] = (uint8_t)value;
+            uint8_t *image = lend(good, 512);
+            if (value % 4)
+                step_somehow(image, 512);
+            else
+                try_left(image, 512, operand(32));
+        }
+    /* a machine that is set up, run and now and then spoilt, forged, or made afresh */
+    uint8_t *image = lend(bytes, 512);
+    try_fresh(image, 512);
+    memcpy(good, image, 512);
+    while (calls < CALLS) {
+        uint64_t which = below(20);
+        if (which == 0) {
+            size_t length = below(LONGEST + 1);
+            call_somehow(lend(NULL, length), length);
+        } else if (which <= 3) {
+            memcpy(bytes, good, 512);
+            bytes[below(512)] ^= (uint8_t)(one_in(2) ? 1u << below(8) : draw());
+            call_somehow(lend(bytes, 512), 512);
+        } else if (which <= 5) {
+            forge(bytes);
+            call_somehow(lend(bytes, 512), 512);
+        } else {
+            image = lend(good, 512);
+            if (one_in(2000))
+                try_fresh(image, 512);
+            else
+                step_somehow(image, 512);
+            memcpy(good, image, 512);
+        }
+    }
+    printf("%lu calls, by code:", calls);
+    for (unsigned code = 0; code < 14; code++)
+        printf(" %u:%lu", code, counts[code]);
+    printf("\n");
+    for (unsigned code = 0; code < 14; code++)
+        if (counts[code] == 0)
+            return 1;
+    return 0;
+}

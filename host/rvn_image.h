@@ -1,0 +1,83 @@
+/*
+ * The Ravenscar model on an image: 512 bytes that a host owns and lends to a call. C99, and C++.
+ *
+ * Every function answers every call: bytes of any length, whatever they hold, and any numbers. A refusal changes no byte. Nothing is kept
+ * between calls, nothing is allocated, and no function is called back: all of the machine is in its image, which may be copied, compared,
+ * stored and stepped again. Two images are the same machine exactly if their bytes are the same. docs/IMAGE.md has the layout.
+ *
+ * A pointer may be null only where its length is 0. Two calls on one image at a time are the host's to prevent.
+ */
+#ifndef RVN_IMAGE_H
+#define RVN_IMAGE_H
+
+#include <stddef.h>
+#include <stdint.h>
+
+#ifdef __cplusplus
+extern "C" {
+#endif
+
+/* The length of an image. */
+#define RVN_IMAGE_BYTES 512
+
+/* Tasks are 0..31: 0 is idle, always there. Objects are 1..7. Bases and ceilings are 1..15. */
+#define RVN_IDLE 0
+#define RVN_LAST_TASK 31
+#define RVN_LAST_OBJECT 7
+#define RVN_TOP_PRIORITY 15
+
+/* Ops, with the operands that each uses. An operand that is not named must be 0. */
+#define RVN_CREATE 1   /* a = task, b = priority: created, placed at the tail of its base */
+#define RVN_OBJECT 2   /* a = object, b = ceiling: declared */
+#define RVN_START 3    /* the front of the ready line runs */
+#define RVN_DELAY 4    /* value = time: into the delay line, or, if the time has passed, a yield */
+#define RVN_WAKE 5     /* the first delay entry, if it is due, becomes ready and is the released task */
+#define RVN_ADVANCE 6  /* value = ticks: the clock grows by that much */
+#define RVN_OPEN 7     /* a = object: the runner holds it, for a procedure or function */
+#define RVN_CLOSEP 8   /* a = object, b = barrier 0 or 1: ends a procedure; with 1 a waiting task is released */
+#define RVN_CLOSEF 9   /* a = object: ends a function */
+#define RVN_ENTRY 10   /* a = object, b = barrier: 1, the runner holds it, for an entry; 0, the runner waits on it */
+#define RVN_DONE 11    /* a = object: ends an entry */
+
+/* Codes: 0, or the number of the refusal. Of several that hold, the answer is the first in the order 1, 4, 2 or 3, then 5 to 13. */
+#define RVN_ACCEPTED 0
+#define RVN_SHAPE 1    /* the image is not 512 bytes, or holds no sound state: running and released are 0 */
+#define RVN_EARLY 2    /* ops 4..11 before start */
+#define RVN_LATE 3     /* ops 1..3 after start */
+#define RVN_RANGE 4    /* an unknown op, an operand out of its range, an unused operand that is not 0 */
+#define RVN_TAKEN 5    /* the task or object is set up already */
+#define RVN_MISSING 6  /* the object, or the task asked about, is not set up */
+#define RVN_IS_IDLE 7  /* ops 4 and 7..11 while task 0 runs */
+#define RVN_INSIDE 8   /* ops 4, 7, 10 while the runner holds an object */
+#define RVN_OUTSIDE 9  /* closing an object that the runner does not hold, or holds in the other way */
+#define RVN_CEILING 10 /* the runner's base is above the ceiling */
+#define RVN_HELD 11    /* another task holds the object */
+#define RVN_QUEUE 12   /* an entry with barrier 0 while a task waits there */
+#define RVN_CLOCK 13   /* an advance past 2^64-1 */
+
+/*
+ * Steps the machine of an image. The answer is code + 256 * running + 65536 * released: RVN_CODE, RVN_RUNNING and RVN_RELEASED take it
+ * apart. An accepted command leaves the image of the machine after the step; any other leaves every byte as it was. op, a and b are as wide
+ * as C's numbers go, so that nothing is cut on the way: 260 is refused with 4, and so is -1.
+ */
+uint32_t rvn_step(uint8_t *image, size_t length, uint64_t op, uint64_t a, uint64_t b, uint64_t value);
+
+/* Writes the fresh machine into an image, whose old contents do not matter: task 0 alone, no object, clock 0, not started. The answer is 0,
+ * or 1 for a wrong length, which changes no byte. */
+uint32_t rvn_fresh(uint8_t *image, size_t length);
+
+/* How many more Wakes release the task: one more than the count of entries ahead of it in the delay line if it is delayed and due, otherwise
+ * 0. The answer is code + 256 * count, with the codes 0, 1, 4 (a task not 1..31) and 6: RVN_CODE and RVN_COUNT take it apart. It only reads. */
+uint32_t rvn_wakes_left(const uint8_t *image, size_t length, uint64_t task);
+
+/* The parts of an answer. */
+#define RVN_CODE(answer) ((answer) & 255u)
+#define RVN_RUNNING(answer) (((answer) >> 8) & 255u)   /* the running task after the step, 0 before start */
+#define RVN_RELEASED(answer) (((answer) >> 16) & 255u) /* the released task, 0 for nobody */
+#define RVN_COUNT(answer) (((answer) >> 8) & 255u)     /* of rvn_wakes_left */
+
+#ifdef __cplusplus
+}
+#endif
+
+#endif
