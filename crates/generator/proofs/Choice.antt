@@ -2,11 +2,11 @@
 -- Assumes nothing.
 use Prim.Native.Nat.{ℕ, zero, suc, _+_, _*_, _≤_, _<_}
 use native.Mathlib.Omega.{arith}
-use mathlib.Core.Path.{_≡_, refl}
+use mathlib.Core.Path.{_≡_, refl, ap}
 use mathlib.Core.Bool.{Bool, true, false, cond}
-use mathlib.Core.List.{List, [], _∷_}
+use mathlib.Core.List.{List, [], _∷_, map}
 use lib.Dec.{leb, ltb}
-use lib.ListN.{getD, length}
+use lib.ListN.{getD, length, drop}
 use borrow.Author.Tests.{leb-true, ltb-true, ltb-false, lt-ltb, le-ltb}
 use Rattle.rules.specs.Line.{every}
 use Rattle.rules.specs.Machine.{Command}
@@ -24,16 +24,48 @@ choose-all P d sum (x ∷ l) k lo hi = go (ltb d (sum + x .0)) refl (λ h. choos
     go true e r = k .0 (let w : d < sum + x .0 = ltb-true _ _ e in omega arith)
     go false e r = r (ltb-false _ _ e)
 
--- The entry i, if it weighs something, is chosen by some number below the total.
+-- The entry i, if it weighs something, is chosen by the sum of the weights ahead of it.
 abbrev pub entry : List (ℕ × Command) → ℕ → ℕ × Command
 entry l i = getD l i (0, no-command)
 
-pub chosen-by : (l : List (ℕ × Command)) (i sum : ℕ) → 1 ≤ entry l i .0 → (d : ℕ) × (sum ≤ d) × (d < sum + total l) × (choose d sum l ≡ entry l i .1)
+-- the sum of the weights ahead of the entry i
+abbrev pub ahead : List (ℕ × Command) → ℕ → ℕ
+ahead [] i = 0
+ahead (x ∷ l) zero = 0
+ahead (x ∷ l) (suc i) = x .0 + ahead l i
+
+pub chosen-by : (l : List (ℕ × Command)) (i sum : ℕ) → 1 ≤ entry l i .0 → (ahead l i < total l) × (choose (sum + ahead l i) sum l ≡ entry l i .1)
 chosen-by [] i sum h = absurd (omega arith)
-chosen-by (x ∷ l) zero sum h = (sum, omega arith, omega arith, rw (lt-ltb sum (sum + x .0) (omega arith)))
+chosen-by (x ∷ l) zero sum h = (omega arith, rw (lt-ltb (sum + 0) (sum + x .0) (omega arith)))
 chosen-by (x ∷ l) (suc i) sum h =
     let w = chosen-by l i (sum + x .0) h in
-    (w .0, omega (arith, w .1), omega (arith, w .2), rw (le-ltb (w .0) (sum + x .0) (w .1)) (w .3))
+    let e : sum + (x .0 + ahead l i) ≡ sum + x .0 + ahead l i = omega arith in
+    (omega (arith, w .0), rw (e, le-ltb (sum + x .0 + ahead l i) (sum + x .0) (omega arith)) (w .1))
+
+-- Weights alone decide: two menus that agree in what is legal have the same sums.
+abbrev legals : List Kind → List Bool
+legals ks = map (λ (k : Kind). k .legal) ks
+
+pub same-sums : (ks js : List Kind) (ws : List ℕ) → legals ks ≡ legals js → (total (weigh ks ws) ≡ total (weigh js ws)) × ((i : ℕ) → ahead (weigh ks ws) i ≡ ahead (weigh js ws) i)
+same-sums [] [] ws e = (refl, λ i. refl)
+same-sums [] (j ∷ js) ws e = absurd (let z : _≡_ {A = ℕ} 0 (suc (length (legals js))) = ap length e in omega arith)
+same-sums (k ∷ ks) [] ws e = absurd (let z : _≡_ {A = ℕ} (suc (length (legals ks))) 0 = ap length e in omega arith)
+same-sums (k ∷ ks) (j ∷ js) [] e = (refl, λ i. refl)
+same-sums (k ∷ ks) (j ∷ js) (w ∷ ws) e =
+    let h : k .legal ≡ j .legal = ap (λ (l : List Bool). getD l 0 false) e in
+    let r = same-sums ks js ws (ap (drop 1) e) in
+    (rw (h, r .0), λ i. go h (r .1) i)
+  where
+    go : k .legal ≡ j .legal → ((i : ℕ) → ahead (weigh ks ws) i ≡ ahead (weigh js ws) i) → (i : ℕ) → ahead (weigh (k ∷ ks) (w ∷ ws)) i ≡ ahead (weigh (j ∷ js) (w ∷ ws)) i
+    go h r zero = refl
+    go h r (suc i) = rw (h, r i)
+
+pub same-legal : (ks js : List Kind) (i : ℕ) (k : Kind) → legals ks ≡ legals js → getD ks i k .legal ≡ getD js i k .legal
+same-legal [] [] i k e = refl
+same-legal [] (j ∷ js) i k e = absurd (let z : _≡_ {A = ℕ} 0 (suc (length (legals js))) = ap length e in omega arith)
+same-legal (x ∷ ks) [] i k e = absurd (let z : _≡_ {A = ℕ} (suc (length (legals ks))) 0 = ap length e in omega arith)
+same-legal (x ∷ ks) (j ∷ js) zero k e = ap (λ (l : List Bool). getD l 0 false) e
+same-legal (x ∷ ks) (j ∷ js) (suc i) k e = same-legal ks js i k (ap (drop 1) e)
 
 -- What is weighed: the kind i has its weight if it is legal, and nothing else.
 pub weighed : (ks : List Kind) (ws : List ℕ) (i : ℕ) (k : Kind) → i < length ws → i < length ks → entry (weigh ks ws) i ≡ (cond (getD ks i k .legal) (getD ws i 0) 0, getD ks i k .command)

@@ -61,7 +61,7 @@ drawn-code m seed p = go (eqb (draw-refusal m seed p) 0) refl _ _ refl refl
     go false e x y f g = g
 
 -- A draw: 1, 17, 18, 2, and the first that holds is answered.
--- Rules out: 18 tested before 17; a seed looked at in a forged state.
+-- Rules out: 18 tested before 17; another number than 1 for a forged state.
 pub code-in-order : (k : Kernel) (seed : ℕ) (p : Profile)
     → drawnOf k seed p .code ≡ first-number ((not (isSound k), 1) ∷ (eqb seed 0, 17) ∷ (not (good-profile (profileOf p)), 18) ∷ (not (k .started), 2) ∷ [])
 unfolding draw-refusal view

@@ -22,14 +22,14 @@ use Rattle.rules.proofs.Walk.{set-up}
 use Rattle.generator.specs.Xorshift.{draw}
 use Rattle.generator.specs.Menu.{Kind, menu}
 use Rattle.generator.specs.Draw.{Profile, good-profile, weigh, total, choose, chosen, no-command, draw-refusal, Drawn, drawn}
-use Rattle.generator.proofs.Choice.{choose-all, chosen-by, entry, weighed, weigh-all, total-has, total-small}
+use Rattle.generator.proofs.Choice.{choose-all, ahead, chosen-by, same-sums, same-legal, entry, weighed, weigh-all, total-has, total-small}
 use Rattle.generator.proofs.Legal.{Right, legal-right}
 use Rattle.generator.proofs.Undone.{draw-fits, draw-lives}
 
 abbrev no-kind : Kind
 no-kind = record { legal = false; command = no-command }
 
--- what a kind weighs, by its index: 0 for delay (op 4), up to 7 for done (op 11)
+-- the kind with that index: 0 for delay (op 4), up to 7 for done (op 11)
 abbrev kind-at : Machine → Profile → ℕ → ℕ → ℕ → Kind
 kind-at m p d2 d3 i = getD (menu m (p .span) d2 d3) i no-kind
 
@@ -91,19 +91,44 @@ module _ (m : Machine) (p : Profile) (s : sound m ≡ true) (on : m .started ≡
       of-kind : (i : ℕ) (c : Command) → i < 8 → 1 ≤ at (p .weights) i → Right m sm on i c → Fine m p c
       of-kind i c h w r = let z : c .op - 4 ≡ i = omega (arith, r .op) in record { accepted = r .accepted; op = (omega (arith, r .op), omega (arith, r .op)); weight = rw z w; fits = r .fits }
 
-  -- Each legal kind of positive weight is drawn by some first draw. (A draw is never 0, so the number found is not.)
-  pub each-kind-drawn : (d2 d3 i : ℕ) → i < 8 → kind-at m p d2 d3 i .legal ≡ true → 1 ≤ at (p .weights) i
-      → (d1 : ℕ) × (1 ≤ d1) × (d1 < 2 ^ 32) × (chosen m p d1 d2 d3 ≡ kind-at m p d2 d3 i .command) × (chosen m p d1 d2 d3 .op ≡ i + 4)
+  -- What is legal does not depend on the draws.
+  still-legal : (d2 d3 i : ℕ) → kind-at m p 0 0 i .legal ≡ true → kind-at m p d2 d3 i .legal ≡ true
+  unfolding menu
+  still-legal d2 d3 i e = same-legal (menu m (p .span) d2 d3) (menu m (p .span) 0 0) i no-kind refl ∙ e
+
+  same-weights : (d2 d3 i : ℕ) → let l = weigh (menu m (p .span) d2 d3) (p .weights) in let l₀ = weigh (menu m (p .span) 0 0) (p .weights) in
+      (total l ≡ total l₀) × (ahead l i ≡ ahead l₀ i)
+  unfolding menu
+  same-weights d2 d3 i = let r = same-sums (menu m (p .span) d2 d3) (menu m (p .span) 0 0) (p .weights) refl in (r .0, r .1 i)
+
+  -- Each legal kind of positive weight is drawn by some first draw, found before the second and the third: whatever these are.
+  -- (A draw is never 0, so the number found is not.) Rules out: a generator that always says wake.
+  pub each-kind-drawn : (i : ℕ) → i < 8 → kind-at m p 0 0 i .legal ≡ true → 1 ≤ at (p .weights) i
+      → (d1 : ℕ) × (1 ≤ d1) × (d1 < 2 ^ 32) × ((d2 d3 : ℕ) → (chosen m p d1 d2 d3 ≡ kind-at m p d2 d3 i .command) × (chosen m p d1 d2 d3 .op ≡ i + 4))
   unfolding chosen
-  each-kind-drawn d2 d3 i h e w =
-      let l = weigh (menu m (p .span) d2 d3) (p .weights) in
-      let q : entry l i ≡ (at (p .weights) i, kind-at m p d2 d3 i .command) = rw e at (weighed (menu m (p .span) d2 d3) (p .weights) i no-kind (inside-weights i w) (omega (arith, menu-eight m (p .span) d2 d3))) in
-      let c = chosen-by l i 0 (omega (arith, ap (λ (x : ℕ × Command). x .0) q)) in
-      let below : c .0 < total l = omega (arith, c .2) in
-      let same : (c .0 + total l) % total l ≡ c .0 = add-mod-right (c .0) (total l) ∙ mod-eq-of-lt below in
-      let found : choose ((c .0 + total l) % total l) 0 l ≡ kind-at m p d2 d3 i .command = rw same (c .3 ∙ ap (λ (x : ℕ × Command). x .1) q) in
-      let small = total-small (menu m (p .span) d2 d3) (p .weights) in-hundred in
-      (c .0 + total l, omega (arith, sum-at-least-one d2 d3), omega (arith, small, menu-eight m (p .span) d2 d3), found, ap (λ (x : Command). x .op) found ∙ legal-right m (tests-sound m .sure s) on (p .span) d2 d3 spans i no-kind h e .op)
+  each-kind-drawn i h e w =
+      let l₀ = weigh (menu m (p .span) 0 0) (p .weights) in
+      let small = total-small (menu m (p .span) 0 0) (p .weights) in-hundred in
+      let below = drawn-at 0 0 .0 in
+      (ahead l₀ i + total l₀, omega (arith, below), omega (arith, below, small, menu-eight m (p .span) 0 0), λ d2 d3. by-draws d2 d3)
+    where
+      drawn-at : (d2 d3 : ℕ) → let l = weigh (menu m (p .span) d2 d3) (p .weights) in (ahead l i < total l) × (choose (ahead l i) 0 l ≡ kind-at m p d2 d3 i .command)
+      drawn-at d2 d3 =
+          let l = weigh (menu m (p .span) d2 d3) (p .weights) in
+          let q : entry l i ≡ (at (p .weights) i, kind-at m p d2 d3 i .command) = rw (still-legal d2 d3 i e) at (weighed (menu m (p .span) d2 d3) (p .weights) i no-kind (inside-weights i w) (omega (arith, menu-eight m (p .span) d2 d3))) in
+          let c = chosen-by l i 0 (omega (arith, ap (λ (x : ℕ × Command). x .0) q)) in
+          let z : 0 + ahead l i ≡ ahead l i = omega arith in
+          (c .0, rw z at (c .1) ∙ ap (λ (x : ℕ × Command). x .1) q)
+
+      by-draws : (d2 d3 : ℕ) → let l₀ = weigh (menu m (p .span) 0 0) (p .weights) in let d1 = ahead l₀ i + total l₀ in
+          (chosen m p d1 d2 d3 ≡ kind-at m p d2 d3 i .command) × (chosen m p d1 d2 d3 .op ≡ i + 4)
+      by-draws d2 d3 =
+          let l = weigh (menu m (p .span) d2 d3) (p .weights) in
+          let c = drawn-at d2 d3 in
+          let z = same-weights d2 d3 i in
+          let same : (ahead l i + total l) % total l ≡ ahead l i = add-mod-right (ahead l i) (total l) ∙ mod-eq-of-lt (c .0) in
+          let found : choose ((ahead l i + total l) % total l) 0 l ≡ kind-at m p d2 d3 i .command = rw same (c .1) in
+          rw (← z .0, ← z .1) (found, ap (λ (x : Command). x .op) found ∙ legal-right m (tests-sound m .sure s) on (p .span) d2 d3 spans i no-kind h (still-legal d2 d3 i e) .op)
 
 -- What an accepted draw has shown.
 drawing : (m : Machine) (seed : ℕ) (p : Profile) → draw-refusal m seed p ≡ 0 → (seed ≢ 0) × (good-profile p ≡ true) × (m .started ≡ true)

@@ -1,4 +1,4 @@
--- From a seed that is not 0 no draw is ever 0: each of the three xor-shifts can be undone, so none takes a number that is not 0 to 0.
+-- From a seed that is not 0 no draw is ever 0: none of the three xor-shifts takes a number that is not 0 to 0.
 -- A xor is 0 only of equal numbers; and x shifted by k bits in 32 is x again only for 0. Assumes nothing.
 use Prim.Native.Nat.{ℕ, zero, suc, _+_, _-_, _*_, _/_, _%_, _^_, _≤_, _<_}
 use native.Mathlib.Omega.{arith}

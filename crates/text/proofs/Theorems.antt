@@ -36,7 +36,7 @@ printed-reads n most h g = both.reads-back n most h (omega arith)
 pub read-prints : (w : List ℕ) (most : ℕ) → most < 2 ^ 64 → number-of w most .fine ≡ true → decimal (number-of w most .value) ≡ w
 read-prints w most h e = both.prints-back w most (omega arith) e
 
--- A text reads as at most one number, whatever the bound. (That a reader answers at all, and within its bound, is its contract.)
+-- No two numbers are printed as one text. (That a reader answers at all, and within its bound, is its contract.)
 pub one-number : (w : List ℕ) (m n : ℕ) → m < 2 ^ 64 → n < 2 ^ 64 → decimal m ≡ w → decimal n ≡ w → m ≡ n
 one-number w m n hm hn em en =
     let a = printed-reads m 18446744073709551615 (omega arith) hm in
