@@ -1,6 +1,7 @@
 pub mod Undone
 pub mod Choice
 pub mod Legal
+pub mod Exact
 pub mod Theorems
 pub mod Loops
 pub mod Tied

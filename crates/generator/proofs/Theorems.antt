@@ -3,7 +3,7 @@ use Prim.Native.Nat.{ℕ, _+_, _-_, _%_, _≤_, _<_, _^_}
 use native.Mathlib.Omega.{arith}
 use native.Mathlib.Nat.{mod-lt, add-mod-right, mod-eq-of-lt}
 use mathlib.Core.Path.{_≡_, refl, sym, ap, _∙_}
-use mathlib.Core.Logic.{_≢_}
+use mathlib.Core.Logic.{_≢_, _↔_, _⊎_}
 use mathlib.Core.Bool.{Bool, true, false, cond, not, _&&_}
 use mathlib.Core.List.{List, [], _∷_}
 use lib.Dec.{eqb, leb, ltb}
@@ -20,10 +20,11 @@ use Rattle.rules.proofs.Tests.{and-true}
 use Rattle.rules.proofs.Sounds.{Sound, tests-sound}
 use Rattle.rules.proofs.Walk.{set-up}
 use Rattle.generator.specs.Xorshift.{draw}
-use Rattle.generator.specs.Menu.{Kind, menu}
+use Rattle.generator.specs.Menu.{Kind, menu, span-fits}
 use Rattle.generator.specs.Draw.{Profile, good-profile, weigh, total, choose, chosen, no-command, draw-refusal, Drawn, drawn}
 use Rattle.generator.proofs.Choice.{choose-all, ahead, chosen-by, same-sums, same-legal, entry, weighed, weigh-all, total-has, total-small}
 use Rattle.generator.proofs.Legal.{Right, legal-right}
+use Rattle.generator.proofs.Exact.{legal-exactly}
 use Rattle.generator.proofs.Undone.{draw-fits, draw-lives}
 
 abbrev no-kind : Kind
@@ -129,6 +130,14 @@ module _ (m : Machine) (p : Profile) (s : sound m ≡ true) (on : m .started ≡
           let same : (ahead l i + total l) % total l ≡ ahead l i = add-mod-right (ahead l i) (total l) ∙ mod-eq-of-lt (c .0) in
           let found : choose ((ahead l i + total l) % total l) 0 l ≡ kind-at m p d2 d3 i .command = rw same (c .1) in
           rw (← z .0, ← z .1) (found, ap (λ (x : Command). x .op) found ∙ legal-right m (tests-sound m .sure s) on (p .span) d2 d3 spans i no-kind h (still-legal d2 d3 i e) .op)
+
+-- ## What is legal
+-- A kind is legal exactly where the machine would accept some command of its op; delay and advance (the kinds 0 and 2) only if the span fits, too.
+-- Rules out: an open or an entry that is never legal, an object whose ceiling is the runner's base left out, a closing kind of the wrong way.
+-- Leaves: which of the eligible objects is named (the definition of the menu).
+pub legal-is : (m : Machine) (p : Profile) → sound m ≡ true → m .started ≡ true → 1 ≤ p .span → (i : ℕ) → i < 8
+    → (kind-at m p 0 0 i .legal ≡ true) ↔ (((i ≡ 0) ⊎ (i ≡ 2) → span-fits m (p .span) ≡ true) × ((c : Command) × (c .op ≡ i + 4) × (refusal m c ≡ 0)))
+legal-is m p s on fits i h = legal-exactly m (tests-sound m .sure s) on (p .span) fits i no-kind h
 
 -- What an accepted draw has shown.
 drawing : (m : Machine) (seed : ℕ) (p : Profile) → draw-refusal m seed p ≡ 0 → (seed ≢ 0) × (good-profile p ≡ true) × (m .started ≡ true)
