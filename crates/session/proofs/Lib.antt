@@ -1,4 +1,5 @@
 pub mod Short
 pub mod Telling
 pub mod Feeding
+pub mod Drawing
 pub mod Theorems

@@ -11,7 +11,7 @@ use lib.ListN.{length, length-append}
 use Rattle.text.specs.Buffer.{contents-after, place-after}
 use Rattle.text.specs.declared.print.Row.{Row}
 use Rattle.text.specs.Decimal.{decimal, decimal-in}
-use Rattle.text.specs.Printed.{walk-header, answer-fields, walk-line, draw-line}
+use Rattle.text.specs.Printed.{walk-header, draw-header, answer-fields, walk-line, draw-line}
 use Rattle.session.specs.Walk.{In-front}
 
 digits-short : (most n : ℕ) → length (decimal-in most n) ≤ most
@@ -59,3 +59,7 @@ module _ (room : ℕ) (text out out′ : List ℕ) (at′ : ℕ) (ea : at′ ≡
 pub header-short : length walk-header ≤ 64
 unfolding walk-header
 header-short = omega arith
+
+pub draw-header-short : length draw-header ≤ 64
+unfolding draw-header
+draw-header-short = omega arith

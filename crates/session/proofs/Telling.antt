@@ -42,10 +42,10 @@ module _ (k : Kernel) (n : ℕ) (s : Spoken) where
 
 -- ---- the end of the input
 
-no-byte : (n : ℕ) (l : List ℕ) → n ≡ 0 → empty (take n l) ≡ true
+pub no-byte : (n : ℕ) (l : List ℕ) → n ≡ 0 → empty (take n l) ≡ true
 no-byte n l e = rw e
 
-some-byte : (n : ℕ) (l : List ℕ) → (n ≡ 0 → ⊥) → 0 < length l → empty (take n l) ≡ false
+pub some-byte : (n : ℕ) (l : List ℕ) → (n ≡ 0 → ⊥) → 0 < length l → empty (take n l) ≡ false
 some-byte zero l z o = absurd (z refl)
 some-byte (suc n) [] z o = absurd (omega arith)
 some-byte (suc n) (b ∷ l) z o = refl

@@ -8,7 +8,8 @@ use Rattle.text.specs.declared.print.Row.{Row}
 use Rattle.text.specs.Commands.{command-of, no-command}
 use Rattle.text.specs.Lines.{lines, kept, joined, nothing-held, cuts, holds-after, lines-of-pieces}
 use Rattle.text.specs.Printed.{walk-header}
-use Rattle.text.proofs.Theorems.{kept-says, lines-whole}
+use Rattle.text.proofs.Kept.{kept-says}
+use Rattle.text.proofs.Theorems.{lines-whole}
 use Rattle.session.specs.declared.walk.Walk.{Walk}
 use Rattle.session.specs.Told.{following, running-in, state-behind, answer-to, row-for}
 use Rattle.session.specs.Walk.{walked, state-after, number-after, walk-text, at-first, text-for, walk-after, last-text, printed}

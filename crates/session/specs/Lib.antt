@@ -1,2 +1,3 @@
 pub mod Told
 pub mod Walk
+pub mod Draw

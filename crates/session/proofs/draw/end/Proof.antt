@@ -1,0 +1,42 @@
+-- `session::draw::end` meets its contract: by the stage. Assumes nothing.
+use borrow.Author.Tests.{eq-eqb, ne-eqb}
+use Rattle.session.specs.Draw.{ended}
+use borrow.Author.Needs.{needs}
+use Rattle.session.proofs.draw.end.Statement.{statement}
+use Rattle.session.proofs.draw.end.Tie as tie
+
+over-with-requires : tie.Need-over-with-requires
+over-with-requires c κs = search needs
+
+returns : tie.Need-returns
+unfolding ended
+returns c = rw (eq-eqb (c .before .before .before .args .d .stage) 0 (c .before .if1 .taken)) (c .over-with .ensures)
+
+over-with-requires-2 : tie.Need-over-with-requires-2
+over-with-requires-2 c κs = search needs
+
+returns-2 : tie.Need-returns-2
+unfolding ended
+returns-2 c =
+    let d = c .before .before .before .before .before .args .d in
+    rw (ne-eqb (d .stage) 0 (c .before .before .before .if1 .left), eq-eqb (d .stage) 1 (c .before .if2 .taken)) (c .over-with2 .ensures)
+
+not-heard-requires : tie.Need-not-heard-requires
+not-heard-requires c κs = search needs
+
+returns-3 : tie.Need-returns-3
+unfolding ended
+returns-3 c =
+    let d = c .before .before .before .before .before .args .d in
+    rw (ne-eqb (d .stage) 0 (c .before .before .before .if1 .left), ne-eqb (d .stage) 1 (c .before .if2 .left)) (c .not-heard .ensures)
+
+pub end-spec : {M : Type 1} → statement M
+end-spec =
+    tie.close
+    (tie.spec
+    over-with-requires
+    returns
+    over-with-requires-2
+    returns-2
+    not-heard-requires
+    returns-3)

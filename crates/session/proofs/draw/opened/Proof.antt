@@ -1,0 +1,23 @@
+-- `session::draw::opened` meets its contract: refused, or setup begins. Assumes nothing.
+use borrow.Author.Tests.{eq-eqb, ne-eqb}
+use Rattle.session.specs.Draw.{opened}
+use borrow.Author.Needs.{needs}
+use Rattle.session.proofs.draw.opened.Statement.{statement}
+use Rattle.session.proofs.draw.opened.Tie as tie
+
+over-with-requires : tie.Need-over-with-requires
+over-with-requires c κs = search needs
+
+returns : tie.Need-returns
+unfolding opened
+returns c = rw (ne-eqb (c .before .before .before .args .f .code) 0 (c .before .if1 .taken)) (c .over-with .ensures)
+
+zeros-requires : tie.Need-zeros-requires
+zeros-requires c κs = search needs
+
+returns-2 : tie.Need-returns-2
+unfolding opened
+returns-2 c = rw (eq-eqb (c .before .before .before .before .before .args .f .code) 0 (c .before .before .before .if1 .left), c .zeros .ensures)
+
+pub opened-spec : {M : Type 1} → statement M
+opened-spec = tie.close (tie.spec over-with-requires returns zeros-requires returns-2)

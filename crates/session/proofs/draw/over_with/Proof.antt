@@ -1,0 +1,15 @@
+-- `session::draw::over_with` meets its contract. Assumes nothing.
+use Rattle.session.specs.Draw.{over-with}
+use borrow.Author.Needs.{needs}
+use Rattle.session.proofs.draw.over_with.Statement.{statement}
+use Rattle.session.proofs.draw.over_with.Tie as tie
+
+zeros-requires : tie.Need-zeros-requires
+zeros-requires c κs = search needs
+
+returns : tie.Need-returns
+unfolding over-with
+returns c = rw (c .zeros .ensures)
+
+pub over-with-spec : {M : Type 1} → statement M
+over-with-spec = tie.close (tie.spec zeros-requires returns)

@@ -1,0 +1,23 @@
+-- `session::draw::set_up` meets its contract. Assumes nothing.
+use Rattle.session.proofs.Drawing.{is-set-up}
+use borrow.Author.Needs.{needs}
+use Rattle.session.proofs.draw.set_up.Statement.{statement}
+use Rattle.session.proofs.draw.set_up.Tie as tie
+
+following-requires : tie.Need-following-requires
+following-requires c κs = search needs
+
+tell-requires : tie.Need-tell-requires
+tell-requires c κs = search needs
+
+choose-requires : tie.Need-choose-requires
+choose-requires c κs = search needs
+
+returns : tie.Need-returns
+returns c =
+    let told = c .before .before .before .before .before .before in
+    let a = told .before .before .args in
+    is-set-up (a .d) (a .s) (told .before .following .result) (c .choose .result) (told .tell .result) (told .before .following .ensures) (told .tell .ensures) (c .choose .ensures)
+
+pub set-up-spec : {M : Type 1} → statement M
+set-up-spec = tie.close (tie.spec following-requires tell-requires choose-requires returns)
