@@ -39,10 +39,11 @@ loop-again c =
     let put = c .before .before .put-shown in
     let drawn = c .before .before .before .before .before in
     let lp = drawn .before .before .loop in
-    let a = drawn .before .before .before .before .before .args in
-    (going-again (a .d) (a .most) (a .out .now) (lp .next) (lp .at) (lp .left) (lp .out) (lp .inv .0) (put .result) (drawn .draw-next .result) (put .last .0)
-    (drawn .draw-next .ensures) (put .ensures .0) (put .ensures .1) (drawn .before .loop-test .taken),
-    lp .inv .1)
+    let a = drawn .before .before .before .before .before .args in (
+      going-again (a .d) (a .most) (a .out .now) (lp .next) (lp .at) (lp .left) (lp .out) (lp .inv .0) (put .result) (drawn .draw-next .result) (put .last .0)
+          (drawn .draw-next .ensures) (put .ensures .0) (put .ensures .1) (drawn .before .loop-test .taken),
+      lp .inv .1,
+    )
 
 same-length : tie.Need-same-length Inv-loop μ-loop
 same-length c = c .before .loop .inv .0 .size

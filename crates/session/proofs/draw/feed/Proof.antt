@@ -68,11 +68,12 @@ loop-again c =
     let line = c .before .before .before .before .before .before in
     let cut = line .before .before .before .before .next-line in
     let lp = line .before .before .before .before .before .before .loop in
-    let a = line .before .before .before .before .before .before .before .before .before .before .before .before .args in
-    (still-again (a .r) (a .piece .now) (a .out .now) (lp .d) (lp .held) (lp .from) (lp .at) (lp .left) (lp .out) (lp .inv .0) (cut .result) (cut .ensures)
-    (put .result) (line .hear .result) (put .last .0) (c .held-none .result) (line .hear .ensures) (put .ensures .0) (put .ensures .1) (c .held-none .ensures)
-    (line .before .before .before .before .before .loop-test .taken) (not-false (cut .result .whole) (line .before .if2 .left)),
-    lp .inv .1)
+    let a = line .before .before .before .before .before .before .before .before .before .before .before .before .args in (
+      still-again (a .r) (a .piece .now) (a .out .now) (lp .d) (lp .held) (lp .from) (lp .at) (lp .left) (lp .out) (lp .inv .0) (cut .result) (cut .ensures)
+          (put .result) (line .hear .result) (put .last .0) (c .held-none .result) (line .hear .ensures) (put .ensures .0) (put .ensures .1) (c .held-none .ensures)
+          (line .before .before .before .before .before .loop-test .taken) (not-false (cut .result .whole) (line .before .if2 .left)),
+      lp .inv .1,
+    )
 
 same-length-2 : tie.Need-same-length-2 Inv-loop μ-loop
 same-length-2 c = c .before .loop .inv .0 .size
