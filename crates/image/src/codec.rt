@@ -170,7 +170,7 @@ fn get_times(s: &[u8]) -> [u64; 32]
     r
 }
 
-pub fn decode(s: &[u8]) -> Kernel
+pub(crate) fn decode(s: &[u8]) -> Kernel
     requires { ⌜ length (now s) ≡ 512 ⌝ }
     ensures { λ r. ⌜ r ≡ kernelOf (now (s .entry)) ⌝ }
 {
@@ -214,7 +214,7 @@ fn is_zero(s: &[u8], at: usize, n: usize) -> bool
     zero
 }
 
-pub fn is_clean(s: &[u8]) -> bool
+pub(crate) fn is_clean(s: &[u8]) -> bool
     requires { ⌜ length (now s) ≡ 512 ⌝ }
     ensures { λ r. ⌜ r ≡ clean (now (s .entry)) ⌝ }
 {
@@ -223,7 +223,7 @@ pub fn is_clean(s: &[u8]) -> bool
 
 // ---- The whole into the bytes that a host lends
 
-pub fn store(image: &mut [u8], v: [u8; 512])
+pub(crate) fn store(image: &mut [u8], v: [u8; 512])
     requires { ⌜ length (now image) ≡ 512 ⌝ }
     ensures { λ _. ⌜ now (image .exit) ≡ v ⌝ }
 {

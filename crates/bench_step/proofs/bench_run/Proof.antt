@@ -1,71 +1,101 @@
--- `bench_run` is safe and ends: the index stays within all four slices. Assumes nothing.
-use native.Mathlib.Omega.{arith}
-use Prim.Native.Nat.{_≤_, _-_}
 use lib.ListN.{length}
+use native.Mathlib.Omega.{arith}
+use Prim.Native.Nat.{suc, _+_, _≤_, _-_}
+use mathlib.Core.Path.{_≡_, refl}
+use Rattle.bench_step.specs.Stream.{countOf, ranOf}
+use Rattle.bench_step.proofs.Turns.{counted, turn, finish}
 use borrow.Author.Needs.{needs}
 use Rattle.bench_step.proofs.bench_run.Statement.{statement}
 use Rattle.bench_step.proofs.bench_run.Tie as tie
+use Rattle.bench_step.proofs.bench_run.Reads as reads
+use Rattle.bench_step.proofs.bench_run.Lts as lts
+use Rattle.bench_step.proofs.lesser.Reads as lesser-reads
+use Rattle.bench_step.proofs.mixed.Reads as mixed-reads
+use Rattle.kernel.proofs.Kernel.fresh.Reads as fresh-reads
+use Rattle.kernel.proofs.Kernel.step.Reads as step-reads
+use Rattle.std.proofs.num.wrapping_add_u64.Reads as wrapping-add-u64-reads
 
 abbrev Inv-loop : tie.InvT-loop
-Inv-loop ops a b values sum k₀ total₀ i₀ k total i = i ≤ length ops
+Inv-loop ops a b values sum n k₀ total₀ i₀ k total i =
+    (i ≤ n) × (n ≤ length ops) × (n ≤ length a) × (n ≤ length b) × (n ≤ length values) × (n ≡ countOf ops a b values) × (k ≡ ranOf ops a b values sum i .kernel) × (total ≡ ranOf ops a b values sum i .total)
 
 abbrev μ-loop : tie.MeasureT-loop
-μ-loop ops a b values sum k₀ total₀ i₀ k total i = length ops - i
+μ-loop ops a b values sum n k₀ total₀ i₀ k total i = n - i
 
+-- src/lib.rt:34:9
+lesser-requires : tie.Need-lesser-requires Inv-loop μ-loop
+lesser-requires c κs = search needs
+
+-- src/lib.rt:35:9
+lesser-requires-2 : tie.Need-lesser-requires-2 Inv-loop μ-loop
+lesser-requires-2 c κs = search needs
+
+-- src/lib.rt:33:9
+lesser-requires-3 : tie.Need-lesser-requires-3 Inv-loop μ-loop
+lesser-requires-3 c κs = search needs
+
+-- src/lib.rt:37:9
 fresh-requires : tie.Need-fresh-requires Inv-loop μ-loop
 fresh-requires c κs = search needs
 
+-- src/lib.rt:40:5
 loop-holds : tie.Need-loop-holds Inv-loop μ-loop
-loop-holds c = search needs
+loop-holds c =
+    let w = counted _ _ _ _ _ _ _ (c .before .before .before .lesser .ensures) (c .before .before .lesser2 .ensures) (c .before .lesser3 .ensures) in
+    (omega arith, w .0, w .1, w .2, w .3, w .4, c .fresh .ensures, refl)
 
-returns : tie.Need-returns Inv-loop μ-loop
-returns c = search needs
-
-returns-2 : tie.Need-returns-2 Inv-loop μ-loop
-returns-2 c = search needs
-
-returns-3 : tie.Need-returns-3 Inv-loop μ-loop
-returns-3 c = search needs
-
-shared-slice-read-t15 : tie.Need-shared-slice-read-t15 Inv-loop μ-loop
-shared-slice-read-t15 c = search needs
-
-shared-slice-read-t17 : tie.Need-shared-slice-read-t17 Inv-loop μ-loop
-shared-slice-read-t17 c = search needs
-
-shared-slice-read-t19 : tie.Need-shared-slice-read-t19 Inv-loop μ-loop
-shared-slice-read-t19 c = search needs
-
-mul-t12 : tie.Need-mul-t12 Inv-loop μ-loop
-mul-t12 c = search needs
-
+-- src/lib.rt:42:17
 shared-slice-read-t21 : tie.Need-shared-slice-read-t21 Inv-loop μ-loop
 shared-slice-read-t21 c = search needs
 
+-- src/lib.rt:43:16
+shared-slice-read-t23 : tie.Need-shared-slice-read-t23 Inv-loop μ-loop
+shared-slice-read-t23 c = search needs
+
+-- src/lib.rt:44:16
+shared-slice-read-t25 : tie.Need-shared-slice-read-t25 Inv-loop μ-loop
+shared-slice-read-t25 c = search needs
+
+-- src/lib.rt:45:20
+mul-t26 : tie.Need-mul-t26 Inv-loop μ-loop
+mul-t26 c = search needs
+
+-- src/lib.rt:45:20
+shared-slice-read-t28 : tie.Need-shared-slice-read-t28 Inv-loop μ-loop
+shared-slice-read-t28 c = search needs
+
+-- src/lib.rt:47:13
 step-requires : tie.Need-step-requires Inv-loop μ-loop
 step-requires c κs = search needs
 
+-- src/lib.rt:48:9
 mixed-requires : tie.Need-mixed-requires Inv-loop μ-loop
 mixed-requires c κs = search needs
 
+-- src/lib.rt:56:9
 add-i : tie.Need-add-i Inv-loop μ-loop
-add-i c =
-    let test = c .before .before .before .before .before .before .before .before .before .before .loop-test in
-    let start = c .before .before .before .before .before .before .before .before .before .before .before .before .before .before .before .before .before in
-    let wide = start .good in
-    omega (arith, test .taken)
+add-i c = search needs
 
+-- src/lib.rt:40:5
 loop-less : tie.Need-loop-less Inv-loop μ-loop
 loop-less c = search needs
 
+-- src/lib.rt:40:5
 loop-again : tie.Need-loop-again Inv-loop μ-loop
-loop-again c = search needs
+loop-again c =
+    let l = c .before .before .before .before .before .before .before .before .loop in
+    let w = turn _ _ _ _ _ (l .i) (l .i + 1) (l .k) (l .total) _ _ (let z : l .i + 1 ≡ suc (l .i) = omega arith in z) (l .inv .6) (l .inv .7) (c .before .before .step .ensures) (c .before .mixed .ensures) in
+    (omega (arith, c .before .before .before .before .before .before .before .loop-test .taken), l .inv .1, l .inv .2, l .inv .3, l .inv .4, l .inv .5, w .0, w .1)
 
+-- src/lib.rt:58:5
 wrapping-add-u64-requires : tie.Need-wrapping-add-u64-requires Inv-loop μ-loop
 wrapping-add-u64-requires c κs = search needs
 
-returns-4 : tie.Need-returns-4 Inv-loop μ-loop
-returns-4 c = search needs
+-- src/lib.rt:29:1
+returns : tie.Need-returns Inv-loop μ-loop
+returns c =
+    let l = c .before .before .loop in
+    finish _ _ _ _ _ _ (l .i) (l .k) (l .total) _ (l .inv .0) (c .before .loop-test .left) (l .inv .5) (l .inv .6) (l .inv .7) (c .wrapping-add-u64 .ensures)
 
 pub bench-run-spec : {M : Type 1} → statement M
 bench-run-spec =
@@ -73,20 +103,20 @@ bench-run-spec =
     (tie.spec
     Inv-loop
     μ-loop
+    lesser-requires
+    lesser-requires-2
+    lesser-requires-3
     fresh-requires
     loop-holds
-    returns
-    returns-2
-    returns-3
-    shared-slice-read-t15
-    shared-slice-read-t17
-    shared-slice-read-t19
-    mul-t12
     shared-slice-read-t21
+    shared-slice-read-t23
+    shared-slice-read-t25
+    mul-t26
+    shared-slice-read-t28
     step-requires
     mixed-requires
     add-i
     loop-less
     loop-again
     wrapping-add-u64-requires
-    returns-4)
+    returns)
