@@ -3,3 +3,4 @@ pub mod Telling
 pub mod Feeding
 pub mod Drawing
 pub mod Theorems
+pub mod DrawWhole
