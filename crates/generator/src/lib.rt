@@ -68,8 +68,8 @@ fn bit(x: u32) -> u8
 // ---- The eligible objects
 
 // To a runner of that base: declared, ceiling at least the base, not held.
-fn is_eligible(ceiling: [u8; 8], held: [u8; 32], base: u8, o: u8) -> bool
-    ensures { λ r. ⌜ r ≡ tables.eligibleIn ceiling held base o ⌝ }
+fn is_eligible(ceiling: [u8; 8], held: &[u8; 32], base: u8, o: u8) -> bool
+    ensures { λ r. ⌜ r ≡ tables.eligibleIn ceiling (now (held .entry)) base o ⌝ }
 {
     let top = line::of_object(ceiling, POId(o));
     let n = line::holders(held, POId(o));
@@ -77,8 +77,8 @@ fn is_eligible(ceiling: [u8; 8], held: [u8; 32], base: u8, o: u8) -> bool
 }
 
 // How many of the objects 1..7 are eligible.
-fn count_eligible(ceiling: [u8; 8], held: [u8; 32], base: u8) -> u64
-    ensures { λ r. ⌜ r ≡ length (sift (tables.eligibleIn ceiling held base) objects) ⌝ }
+fn count_eligible(ceiling: [u8; 8], held: &[u8; 32], base: u8) -> u64
+    ensures { λ r. ⌜ r ≡ length (sift (tables.eligibleIn ceiling (now (held .entry)) base) objects) ⌝ }
 {
     let mut n = 0u64;
     let mut o = 1u8;
@@ -92,8 +92,8 @@ fn count_eligible(ceiling: [u8; 8], held: [u8; 32], base: u8) -> u64
 }
 
 // The eligible object number `n`, counted from 0 upward; 0 where there are not so many.
-fn nth_eligible(ceiling: [u8; 8], held: [u8; 32], base: u8, n: u64) -> u8
-    ensures { λ r. ⌜ r ≡ getD (sift (tables.eligibleIn ceiling held base) objects) n 0 ⌝ }
+fn nth_eligible(ceiling: [u8; 8], held: &[u8; 32], base: u8, n: u64) -> u8
+    ensures { λ r. ⌜ r ≡ getD (sift (tables.eligibleIn ceiling (now (held .entry)) base) objects) n 0 ⌝ }
 {
     let mut left = n;
     let mut o = 1u8;
@@ -142,11 +142,11 @@ fn look(k: Kernel, span: u32, d2: u32) -> Sight
     let ceiling = k.ceiling;
     let waiter = k.waiter;
     let runner = ready[0];
-    let level = line::of_task(base, TaskID(runner));
-    let hand = line::of_task(held, TaskID(runner));
-    let how = line::of_task(way, TaskID(runner));
-    let count = count_eligible(ceiling, held, level);
-    let object = nth_eligible(ceiling, held, level, rest(wide(d2), count));
+    let level = line::of_task(&base, TaskID(runner));
+    let hand = line::of_task(&held, TaskID(runner));
+    let how = line::of_task(&way, TaskID(runner));
+    let count = count_eligible(ceiling, &held, level);
+    let object = nth_eligible(ceiling, &held, level, rest(wide(d2), count));
     Sight {
         free: !(runner == 0) & (hand == 0),
         opened: !(hand == 0) & (how == 1),

@@ -1,6 +1,6 @@
 -- The two ends of a step of a sound state: refused, with the number that the code found; or accepted, and carried out. Assumes nothing.
 use Prim.Native.Nat.{ℕ}
-use mathlib.Core.Path.{_≡_}
+use mathlib.Core.Path.{_≡_, ap, sym}
 use mathlib.Core.Logic.{_≢_}
 use mathlib.Core.Bool.{true, cond}
 use borrow.Author.Tests.{eq-eqb, ne-eqb}
@@ -18,3 +18,7 @@ module _ (k : Kernel) (c : Command) (n : ℕ) (s : isSound k ≡ true) (e : n �
   pub accepted-end : n ≡ 0 → carriedOf k c ≡ stepOf k c
   unfolding steppedOf
   accepted-end h = rw (← step-meets k c s, ← e, eq-eqb n 0 h)
+
+-- a command that is carried out as its op says
+pub as-op : (k : Kernel) (c : Command) (n : ℕ) → c .op ≡ n → carriedOf k (record { op = n; a = c .a; b = c .b; value = c .value }) ≡ carriedOf k c
+as-op k c n e = ap (λ (op : ℕ). carriedOf k (record { op = op; a = c .a; b = c .b; value = c .value })) (sym e)

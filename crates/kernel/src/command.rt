@@ -108,18 +108,18 @@ fn passes_end(clock: u64, ticks: u64) -> bool
 }
 
 // What the tests of a command look at.
-pub(crate) fn looked_at(
+pub(crate) fn looked_at<'a>(
     c: Command,
-    base: [u8; 32],
-    ready: [u8; 32],
-    held: [u8; 32],
-    way: [u8; 32],
+    base: &'a [u8; 32],
+    ready: &'a [u8; 32],
+    held: &'a [u8; 32],
+    way: &'a [u8; 32],
     ceiling: [u8; 8],
     waiter: [u8; 8],
     clock: u64,
     started: bool,
 ) -> Case
-    ensures { λ r. ⌜ r ≡ caseOn (said c) base ready held way ceiling waiter clock started ⌝ }
+    ensures { λ r. ⌜ r ≡ caseOn (said c) (now (base .entry)) (now (ready .entry)) (now (held .entry)) (now (way .entry)) ceiling waiter clock started ⌝ }
 {
     let r = TaskID(ready[0]);
     let o = POId(c.a);

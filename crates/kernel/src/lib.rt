@@ -77,19 +77,14 @@ impl Kernel {
     pub fn step(self, c: Command) -> Stepped
         ensures { λ r. ⌜ r ≡ stepOf self (said c) ⌝ }
     {
-        let base = self.base;
-        let ready = self.ready;
-        let delayed = self.delayed;
-        let held = self.held;
-        let way = self.way;
         let ceiling = self.ceiling;
         let waiter = self.waiter;
         if !test::tested(
-            base,
-            ready,
-            delayed,
-            held,
-            way,
+            &self.base,
+            &self.ready,
+            &self.delayed,
+            &self.held,
+            &self.way,
             &self.until,
             ceiling,
             waiter,
@@ -103,10 +98,10 @@ impl Kernel {
         }
         let s = command::looked_at(
             c,
-            base,
-            ready,
-            held,
-            way,
+            &self.base,
+            &self.ready,
+            &self.held,
+            &self.way,
             ceiling,
             waiter,
             self.clock,
@@ -116,7 +111,7 @@ impl Kernel {
         if code != 0 {
             return Stepped {
                 next: self,
-                answer: refused(code, line::choose(self.started, ready[0], 0)),
+                answer: refused(code, line::choose(self.started, self.ready[0], 0)),
             };
         }
         let op = c.op;
@@ -156,8 +151,7 @@ impl Kernel {
         if 31 < t.0 {
             return Left { code: 4, left: 0 };
         }
-        let base = self.base;
-        if line::of_task(base, t) == 0 {
+        if line::of_task(&self.base, t) == 0 {
             return Left { code: 6, left: 0 };
         }
         let delayed = self.delayed;

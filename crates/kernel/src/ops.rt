@@ -84,7 +84,7 @@ impl Kernel {
         let ceiling = self.ceiling;
         let held = self.held;
         let r = TaskID(line[0]);
-        let p = line::of_task(base, r);
+        let p = line::of_task(&base, r);
         let rest = line::without_front(line);
         let ready = line::at_level(rest, base, ceiling, held, p, r);
         let mut next = self;
@@ -123,7 +123,7 @@ impl Kernel {
         let base = self.base;
         let ceiling = self.ceiling;
         let held = self.held;
-        let p = line::of_task(base, t);
+        let p = line::of_task(&base, t);
         let ready = line::at_level(line, base, ceiling, held, p, t);
         let delayed = line::without_front(old);
         let mut next = self;
@@ -175,7 +175,7 @@ impl Kernel {
         let ceiling = self.ceiling;
         let held = self.held;
         let waits = self.waiter;
-        let p = line::of_task(base, t);
+        let p = line::of_task(&base, t);
         let ready = line::at_level(line, base, ceiling, held, p, t);
         let waiter = line::with_object(waits, o, 0);
         let mut next = self;
@@ -196,7 +196,7 @@ impl Kernel {
         let r = TaskID(line[0]);
         let held = line::with_task(hands, r, 0);
         let way = line::with_task(ways, r, 0);
-        let own = line::of_task(base, r);
+        let own = line::of_task(&base, r);
         let above = line::one_more(own);
         let rest = line::without_front(line);
         let ready = line::at_level(rest, base, ceiling, held, above, r);

@@ -25,8 +25,13 @@ fn task_fits(base: u8, place: u8, held: u8, way: u8) -> bool
 }
 
 // No exit before the end: so the compiler tests sixteen tasks at a time.
-fn tasks_fit(base: [u8; 32], place: [u8; 32], held: [u8; 32], way: [u8; 32]) -> bool
-    ensures { λ r. ⌜ r ≡ test.tasksFit base place held way ⌝ }
+fn tasks_fit<'a>(
+    base: &'a [u8; 32],
+    place: &'a [u8; 32],
+    held: &'a [u8; 32],
+    way: &'a [u8; 32],
+) -> bool
+    ensures { λ r. ⌜ r ≡ test.tasksFit (now (base .entry)) (now (place .entry)) (now (held .entry)) (now (way .entry)) ⌝ }
 {
     let mut fit = true;
     let mut t = 0;
@@ -38,8 +43,8 @@ fn tasks_fit(base: [u8; 32], place: [u8; 32], held: [u8; 32], way: [u8; 32]) -> 
 }
 
 // Only a delayed task has a time.
-fn times_fit(until: &[u64; 32], place: [u8; 32]) -> bool
-    ensures { λ r. ⌜ r ≡ test.timesFit (now (until .entry)) place ⌝ }
+fn times_fit<'a>(until: &'a [u64; 32], place: &'a [u8; 32]) -> bool
+    ensures { λ r. ⌜ r ≡ test.timesFit (now (until .entry)) (now (place .entry)) ⌝ }
 {
     let mut fit = true;
     let mut t = 0;
@@ -58,13 +63,15 @@ fn admits(ceiling: u8, base: u8) -> bool
 }
 
 // Each holder may hold its object, and no other holds it.
-fn holders_fit(base: [u8; 32], held: [u8; 32], ceiling: [u8; 8]) -> bool
-    ensures { λ r. ⌜ r ≡ test.holdersFit ceiling (replicate 8 0) base held ⌝ }
+fn holders_fit<'a>(base: &'a [u8; 32], held: &'a [u8; 32], ceiling: [u8; 8]) -> bool
+    ensures { λ r. ⌜ r ≡ test.holdersFit ceiling (replicate 8 0) (now (base .entry)) (now (held .entry)) ⌝ }
 {
+    let bases: &[u8] = base;
+    let hands: &[u8] = held;
     let mut taken = [0u8; 8];
     let mut t = 0;
     while t < 32 {
-        let o = held[t];
+        let o = hands[t];
         if o == 0 {
             t += 1;
             continue;
@@ -74,7 +81,7 @@ fn holders_fit(base: [u8; 32], held: [u8; 32], ceiling: [u8; 8]) -> bool
         }
         let j = o as usize;
         let free = taken[j] == 0;
-        if !(free & admits(ceiling[j], base[t])) {
+        if !(free & admits(ceiling[j], bases[t])) {
             return false;
         }
         taken[j] = 1;
@@ -91,8 +98,8 @@ fn object_fits(o: u8, ceiling: u8, w: u8, base: u8) -> bool
     null & (ceiling <= 15) & ((w == 0) | (w < 32) & admits(ceiling, base))
 }
 
-fn objects_fit(base: [u8; 32], ceiling: [u8; 8], waiter: [u8; 8]) -> bool
-    ensures { λ r. ⌜ r ≡ test.objectsFit base ceiling waiter ⌝ }
+fn objects_fit(base: &[u8; 32], ceiling: [u8; 8], waiter: [u8; 8]) -> bool
+    ensures { λ r. ⌜ r ≡ test.objectsFit (now (base .entry)) ceiling waiter ⌝ }
 {
     let mut fit = true;
     let mut o = 0u8;
@@ -118,8 +125,8 @@ fn nobody_waits(waiter: [u8; 8]) -> bool
 }
 
 // Before Start the clock is 0 and nothing is delayed, waiting or held.
-fn is_calm(started: bool, clock: u64, first: u8, waiter: [u8; 8], held: [u8; 32]) -> bool
-    ensures { λ r. ⌜ r ≡ test.isCalm started clock first waiter held ⌝ }
+fn is_calm(started: bool, clock: u64, first: u8, waiter: [u8; 8], held: &[u8; 32]) -> bool
+    ensures { λ r. ⌜ r ≡ test.isCalm started clock first waiter (now (held .entry)) ⌝ }
 {
     if started {
         return true;
@@ -127,20 +134,20 @@ fn is_calm(started: bool, clock: u64, first: u8, waiter: [u8; 8], held: [u8; 32]
     (clock == 0) & (first == 0) & nobody_waits(waiter) & line::is_free(held)
 }
 
-// The whole test, table by table: the state itself goes into no call.
-pub(crate) fn tested(
-    base: [u8; 32],
-    ready: [u8; 32],
-    delayed: [u8; 32],
-    held: [u8; 32],
-    way: [u8; 32],
-    until: &[u64; 32],
+// The whole test, table by table: the state itself goes into no call, and a table of 32 is lent.
+pub(crate) fn tested<'a>(
+    base: &'a [u8; 32],
+    ready: &'a [u8; 32],
+    delayed: &'a [u8; 32],
+    held: &'a [u8; 32],
+    way: &'a [u8; 32],
+    until: &'a [u64; 32],
     ceiling: [u8; 8],
     waiter: [u8; 8],
     clock: u64,
     started: bool,
 ) -> bool
-    ensures { λ r. ⌜ r ≡ test.testOf (test.tables base ready delayed held way (now (until .entry)) ceiling waiter clock started) ⌝ }
+    ensures { λ r. ⌜ r ≡ test.testOf (test.tables (now (base .entry)) (now (ready .entry)) (now (delayed .entry)) (now (held .entry)) (now (way .entry)) (now (until .entry)) ceiling waiter clock started) ⌝ }
 {
     let ended = line::is_ended(ready) & line::is_ended(delayed);
     let falling = line::is_falling(ready, base, ceiling, held);
@@ -148,8 +155,8 @@ pub(crate) fn tested(
     let place = line::mark_line(ready, READY, [0; 32]);
     let place = line::mark_line(delayed, DELAYED, place);
     let place = line::mark_waiting(waiter, WAITING, place);
-    let tasks = tasks_fit(base, place, held, way);
-    let times = times_fit(until, place);
+    let tasks = tasks_fit(base, &place, held, way);
+    let times = times_fit(until, &place);
     let holders = holders_fit(base, held, ceiling);
     let objects = objects_fit(base, ceiling, waiter);
     let calm = is_calm(started, clock, delayed[0], waiter, held);
@@ -160,19 +167,14 @@ impl Kernel {
     pub fn sound(self) -> bool
         ensures { λ r. ⌜ r ≡ isSound self ⌝ }
     {
-        let base = self.base;
-        let ready = self.ready;
-        let delayed = self.delayed;
-        let held = self.held;
-        let way = self.way;
         let ceiling = self.ceiling;
         let waiter = self.waiter;
         tested(
-            base,
-            ready,
-            delayed,
-            held,
-            way,
+            &self.base,
+            &self.ready,
+            &self.delayed,
+            &self.held,
+            &self.way,
             &self.until,
             ceiling,
             waiter,

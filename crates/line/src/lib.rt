@@ -15,16 +15,12 @@ pub struct POId(pub u8);
 
 // ---- look up and store
 
-pub fn of_task(table: [u8; 32], t: TaskID) -> u8
-    ensures { λ r. ⌜ r ≡ at table (t .0) ⌝ }
+pub fn of_task(table: &[u8; 32], t: TaskID) -> u8
+    ensures { λ r. ⌜ r ≡ at (now (table .entry)) (t .0) ⌝ }
 {
-    let n = t.0;
-    if n < 32 {
-        let i = n as usize;
-        table[i]
-    } else {
-        0
-    }
+    let cells: &[u8] = table;
+    let i = t.0 as usize;
+    if i < 32 { cells[i] } else { 0 }
 }
 
 // The times are 256 bytes, so they are lent.
@@ -207,13 +203,14 @@ pub fn without_front(line: [u8; 32]) -> [u8; 32]
 // ---- count
 
 // How many tasks hold the object.
-pub fn holders(held: [u8; 32], o: POId) -> u8
-    ensures { λ r. ⌜ r ≡ count (o .0) held ⌝ }
+pub fn holders(held: &[u8; 32], o: POId) -> u8
+    ensures { λ r. ⌜ r ≡ count (o .0) (now (held .entry)) ⌝ }
 {
+    let cells: &[u8] = held;
     let mut n = 0u8;
     let mut i = 0;
     while i < 32 {
-        if o.0 == held[i] {
+        if o.0 == cells[i] {
             n += 1;
         }
         i += 1;
@@ -229,13 +226,14 @@ pub fn one_more(n: u8) -> u8
 }
 
 // Where each task stands: the mark of the line or of the objects, on top of what was marked before; 9 for a task that stands twice.
-pub fn mark_line(line: [u8; 32], mark: u8, seen: [u8; 32]) -> [u8; 32]
-    ensures { λ r. ⌜ r ≡ marks no-task mark line seen ⌝ }
+pub fn mark_line(line: &[u8; 32], mark: u8, seen: [u8; 32]) -> [u8; 32]
+    ensures { λ r. ⌜ r ≡ marks no-task mark (now (line .entry)) seen ⌝ }
 {
+    let cells: &[u8] = line;
     let mut out = seen;
     let mut i = 0;
     while i < 32 {
-        let x = line[i];
+        let x = cells[i];
         if x == 0 {
             return out;
         }
@@ -271,39 +269,47 @@ pub fn mark_waiting(waiter: [u8; 8], mark: u8, seen: [u8; 32]) -> [u8; 32]
 // ---- order
 
 // Behind a free place all are free. No exit before the end: so the compiler tests sixteen places at a time.
-pub fn is_ended(line: [u8; 32]) -> bool
-    ensures { λ r. ⌜ r ≡ ended line ⌝ }
+pub fn is_ended(line: &[u8; 32]) -> bool
+    ensures { λ r. ⌜ r ≡ ended (now (line .entry)) ⌝ }
 {
+    let cells: &[u8] = line;
     let mut ends = true;
     let mut i = 0;
     while i < 31 {
-        ends = ends & (!(line[i] == 0) | (line[i + 1] == 0));
+        ends = ends & (!(cells[i] == 0) | (cells[i + 1] == 0));
         i += 1;
     }
     ends
 }
 
 // All places are free.
-pub fn is_free(line: [u8; 32]) -> bool
-    ensures { λ r. ⌜ r ≡ zeros line ⌝ }
+pub fn is_free(line: &[u8; 32]) -> bool
+    ensures { λ r. ⌜ r ≡ zeros (now (line .entry)) ⌝ }
 {
+    let cells: &[u8] = line;
     let mut free = true;
     let mut i = 0;
     while i < 32 {
-        free = free & (line[i] == 0);
+        free = free & (cells[i] == 0);
         i += 1;
     }
     free
 }
 
 // Tasks by active priority, none above 15.
-pub fn is_falling(line: [u8; 32], base: [u8; 32], ceiling: [u8; 8], held: [u8; 32]) -> bool
-    ensures { λ r. ⌜ r ≡ falls base ceiling held 15 line ⌝ }
+pub fn is_falling<'a>(
+    line: &'a [u8; 32],
+    base: &'a [u8; 32],
+    ceiling: [u8; 8],
+    held: &'a [u8; 32],
+) -> bool
+    ensures { λ r. ⌜ r ≡ falls (now (base .entry)) ceiling (now (held .entry)) 15 (now (line .entry)) ⌝ }
 {
+    let cells: &[u8] = line;
     let mut last = 15u8;
     let mut i = 0;
     while i < 32 {
-        let x = line[i];
+        let x = cells[i];
         if x == 0 {
             return true;
         }
@@ -324,13 +330,14 @@ pub fn is_falling(line: [u8; 32], base: [u8; 32], ceiling: [u8; 8], held: [u8; 3
 }
 
 // Tasks by time.
-pub fn is_rising(line: [u8; 32], until: &[u64; 32]) -> bool
-    ensures { λ r. ⌜ r ≡ rises (now (until .entry)) 0 line ⌝ }
+pub fn is_rising<'a>(line: &'a [u8; 32], until: &'a [u64; 32]) -> bool
+    ensures { λ r. ⌜ r ≡ rises (now (until .entry)) 0 (now (line .entry)) ⌝ }
 {
+    let cells: &[u8] = line;
     let mut last = 0u64;
     let mut i = 0;
     while i < 32 {
-        let x = line[i];
+        let x = cells[i];
         if x == 0 {
             return true;
         }

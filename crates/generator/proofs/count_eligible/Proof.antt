@@ -37,7 +37,7 @@ loop-again : tie.Need-loop-again Inv-loop μ-loop
 loop-again c =
     let h = c .before .before .before in
     let a = h .before .args in
-    let f = eligibleIn (a .ceiling) (a .held) (a .base) in
+    let f = eligibleIn (a .ceiling) (a .held .now) (a .base) in
     ⊎-elim
     (λ w. (omega arith, omega arith, omega arith, h .loop .inv .3 ∙ rw (w .1, sift-yes f (h .loop .o) (omega arith) (sym (c .before .is-eligible .ensures) ∙ w .0 .taken)) (omega arith)))
     (λ w. (omega arith, omega arith, omega arith, h .loop .inv .3 ∙ rw (w .1, sift-no f (h .loop .o) (omega arith) (sym (c .before .is-eligible .ensures) ∙ w .0 .left))))
@@ -47,7 +47,7 @@ returns : tie.Need-returns Inv-loop μ-loop
 returns c =
     let h = c .before in
     let a = h .before .args in
-    omega (arith, ap (λ l. length l) (sift-done (eligibleIn (a .ceiling) (a .held) (a .base)) (h .loop .o) (omega arith)))
+    omega (arith, ap (λ l. length l) (sift-done (eligibleIn (a .ceiling) (a .held .now) (a .base)) (h .loop .o) (omega arith)))
 
 pub count-eligible-spec : {M : Type 1} → statement M
 count-eligible-spec =

@@ -39,17 +39,17 @@ has-room-requires c κs = search needs
 returns : tie.Need-returns
 unfolding view
 returns c =
-    let a = c .before .before .before .before .before .before .before .before .before .before .before .before .before .before .before .args in
+    let a = c .before .before .before .before .before .before .before .before .before .before .before .before .before .before .before .before .before .before .before .before .args in
     rw (
       c .has-room .ensures,
       c .before .of-object .ensures,
       c .before .before .nth-eligible .ensures,
       c .before .before .before .rest .ensures,
       c .before .before .before .before .wide .ensures .0,
-      c .before .before .before .before .before .count-eligible .ensures,
-      c .before .before .before .before .before .before .of-task3 .ensures,
-      c .before .before .before .before .before .before .before .of-task2 .ensures,
-      c .before .before .before .before .before .before .before .before .of-task .ensures,
+      c .before .before .before .before .before .before .count-eligible .ensures,
+      c .before .before .before .before .before .before .before .before .of-task3 .ensures,
+      c .before .before .before .before .before .before .before .before .before .before .of-task2 .ensures,
+      c .before .before .before .before .before .before .before .before .before .before .before .before .of-task .ensures,
     )
     (sym (seen (a .k) (a .span) (a .d2)))
 

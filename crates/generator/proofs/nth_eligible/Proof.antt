@@ -29,7 +29,7 @@ returns c =
     let h = c .before .before .before .before in
     let a = h .before .args in
     let e = c .before .before .is-eligible in
-    sym (h .loop .inv .2 ∙ rw (sift-yes (eligibleIn (a .ceiling) (a .held) (a .base)) (h .loop .o) (omega arith) (sym (e .ensures) ∙ c .before .if1 .taken), c .if2 .taken))
+    sym (h .loop .inv .2 ∙ rw (sift-yes (eligibleIn (a .ceiling) (a .held .now) (a .base)) (h .loop .o) (omega arith) (sym (e .ensures) ∙ c .before .if1 .taken), c .if2 .taken))
 
 sub-left : tie.Need-sub-left Inv-loop μ-loop
 sub-left c = search needs
@@ -44,7 +44,7 @@ loop-again : tie.Need-loop-again Inv-loop μ-loop
 loop-again c =
     let h = c .before .before .before in
     let a = h .before .args in
-    let f = eligibleIn (a .ceiling) (a .held) (a .base) in
+    let f = eligibleIn (a .ceiling) (a .held .now) (a .base) in
     let e = c .before .is-eligible in
     ⊎-elim
     (λ w. (omega arith, omega arith, h .loop .inv .2 ∙ (rw (w .2, sift-yes f (h .loop .o) (omega arith) (sym (e .ensures) ∙ w .0 .taken)) (past-first (h .loop .o) (sift f (upward (8 - (h .loop .o + 1)) (h .loop .o + 1))) (h .loop .left) (w .1 .left)))))
@@ -55,7 +55,7 @@ returns-2 : tie.Need-returns-2 Inv-loop μ-loop
 returns-2 c =
     let h = c .before in
     let a = h .before .args in
-    sym (h .loop .inv .2 ∙ rw (sift-done (eligibleIn (a .ceiling) (a .held) (a .base)) (h .loop .o) (omega arith)))
+    sym (h .loop .inv .2 ∙ rw (sift-done (eligibleIn (a .ceiling) (a .held .now) (a .base)) (h .loop .o) (omega arith)))
 
 pub nth-eligible-spec : {M : Type 1} → statement M
 nth-eligible-spec =

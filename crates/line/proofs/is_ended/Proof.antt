@@ -12,22 +12,22 @@ use Rattle.line.proofs.is_ended.Statement.{statement}
 use Rattle.line.proofs.is_ended.Tie as tie
 
 abbrev Inv-loop : tie.InvT-loop
-Inv-loop line ends₀ i₀ ends i = (i ≤ 31) × (ended line ≡ ends && ended (drop i line))
+Inv-loop line cells ends₀ i₀ ends i = (i ≤ 31) × (ended line ≡ ends && ended (drop i line))
 
 abbrev μ-loop : tie.MeasureT-loop
-μ-loop line ends₀ i₀ ends i = 31 - i
+μ-loop line cells ends₀ i₀ ends i = 31 - i
 
 loop-holds : tie.Need-loop-holds Inv-loop μ-loop
 loop-holds c = search needs
 
-array-read-ends : tie.Need-array-read-ends Inv-loop μ-loop
-array-read-ends c = search needs
+shared-slice-read-ends : tie.Need-shared-slice-read-ends Inv-loop μ-loop
+shared-slice-read-ends c = search needs
 
 add-ends : tie.Need-add-ends Inv-loop μ-loop
 add-ends c = search needs
 
-array-read-ends-2 : tie.Need-array-read-ends-2 Inv-loop μ-loop
-array-read-ends-2 c = search needs
+shared-slice-read-ends-2 : tie.Need-shared-slice-read-ends-2 Inv-loop μ-loop
+shared-slice-read-ends-2 c = search needs
 
 add-i : tie.Need-add-i Inv-loop μ-loop
 add-i c = search needs
@@ -37,17 +37,17 @@ loop-less c = search needs
 
 loop-again : tie.Need-loop-again Inv-loop μ-loop
 loop-again c =
-    let h = c .before in
-    let a = h .before .args in
-    let len : length (a .t1) ≡ 32 = search needs in
-    (omega arith, h .loop .inv .1 ∙ pairs-step (λ x y. not (eqb x 0) || eqb y 0) (a .t1) (h .loop .i) (h .loop .ends) (omega arith))
+    let h = c .before .before .before in
+    let a = h .before .before .args in
+    let len : length (a .line .now) ≡ 32 = h .before .cells .given .0 in
+    (omega arith, h .loop .inv .1 ∙ pairs-step (λ x y. not (eqb x 0) || eqb y 0) (a .line .now) (h .loop .i) (h .loop .ends) (omega arith))
 
 returns : tie.Need-returns Inv-loop μ-loop
 returns c =
     let h = c .before in
-    let a = h .before .args in
-    let len : length (a .t1) ≡ 32 = search needs in
-    sym (h .loop .inv .1 ∙ pairs-done (λ x y. not (eqb x 0) || eqb y 0) (a .t1) (h .loop .i) (h .loop .ends) (omega arith))
+    let a = h .before .before .args in
+    let len : length (a .line .now) ≡ 32 = h .before .cells .given .0 in
+    sym (h .loop .inv .1 ∙ pairs-done (λ x y. not (eqb x 0) || eqb y 0) (a .line .now) (h .loop .i) (h .loop .ends) (omega arith))
 
 pub is-ended-spec : {M : Type 1} → statement M
 is-ended-spec =
@@ -56,9 +56,9 @@ is-ended-spec =
     Inv-loop
     μ-loop
     loop-holds
-    array-read-ends
+    shared-slice-read-ends
     add-ends
-    array-read-ends-2
+    shared-slice-read-ends-2
     add-i
     loop-less
     loop-again

@@ -12,16 +12,16 @@ use Rattle.line.proofs.is_free.Statement.{statement}
 use Rattle.line.proofs.is_free.Tie as tie
 
 abbrev Inv-loop : tie.InvT-loop
-Inv-loop line free₀ i₀ free i = (i ≤ 32) × (zeros line ≡ free && zeros (drop i line))
+Inv-loop line cells free₀ i₀ free i = (i ≤ 32) × (zeros line ≡ free && zeros (drop i line))
 
 abbrev μ-loop : tie.MeasureT-loop
-μ-loop line free₀ i₀ free i = 32 - i
+μ-loop line cells free₀ i₀ free i = 32 - i
 
 loop-holds : tie.Need-loop-holds Inv-loop μ-loop
 loop-holds c = search needs
 
-array-read-free : tie.Need-array-read-free Inv-loop μ-loop
-array-read-free c = search needs
+shared-slice-read-free : tie.Need-shared-slice-read-free Inv-loop μ-loop
+shared-slice-read-free c = search needs
 
 add-i : tie.Need-add-i Inv-loop μ-loop
 add-i c = search needs
@@ -31,19 +31,19 @@ loop-less c = search needs
 
 loop-again : tie.Need-loop-again Inv-loop μ-loop
 loop-again c =
-    let h = c .before in
-    let a = h .before .args in
-    let len : length (a .t1) ≡ 32 = search needs in
-    (omega arith, h .loop .inv .1 ∙ every-step (λ x. eqb x 0) (a .t1) (h .loop .i) (h .loop .free) (omega arith))
+    let h = c .before .before in
+    let a = h .before .before .args in
+    let len : length (a .line .now) ≡ 32 = h .before .cells .given .0 in
+    (omega arith, h .loop .inv .1 ∙ every-step (λ x. eqb x 0) (a .line .now) (h .loop .i) (h .loop .free) (omega arith))
 
 returns : tie.Need-returns Inv-loop μ-loop
 returns c =
     let h = c .before in
-    let a = h .before .args in
-    let len : length (a .t1) ≡ 32 = search needs in
-    sym (h .loop .inv .1 ∙ every-done (λ x. eqb x 0) (a .t1) (h .loop .i) (h .loop .free) (omega arith))
+    let a = h .before .before .args in
+    let len : length (a .line .now) ≡ 32 = h .before .cells .given .0 in
+    sym (h .loop .inv .1 ∙ every-done (λ x. eqb x 0) (a .line .now) (h .loop .i) (h .loop .free) (omega arith))
 
 pub is-free-spec : {M : Type 1} → statement M
 is-free-spec =
     tie.close
-    (tie.spec Inv-loop μ-loop loop-holds array-read-free add-i loop-less loop-again returns)
+    (tie.spec Inv-loop μ-loop loop-holds shared-slice-read-free add-i loop-less loop-again returns)

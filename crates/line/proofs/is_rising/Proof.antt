@@ -14,30 +14,30 @@ use Rattle.line.proofs.is_rising.Statement.{statement}
 use Rattle.line.proofs.is_rising.Tie as tie
 
 abbrev Inv-loop : tie.InvT-loop
-Inv-loop until line last₀ i₀ last i = rises until 0 line ≡ rises until last (drop i line)
+Inv-loop line until cells last₀ i₀ last i = rises until 0 line ≡ rises until last (drop i line)
 
 abbrev μ-loop : tie.MeasureT-loop
-μ-loop until line last₀ i₀ last i = 32 - i
+μ-loop line until cells last₀ i₀ last i = 32 - i
 
 loop-holds : tie.Need-loop-holds Inv-loop μ-loop
 loop-holds c = search needs
 
-array-read-x : tie.Need-array-read-x Inv-loop μ-loop
-array-read-x c = search needs
+shared-slice-read-x : tie.Need-shared-slice-read-x Inv-loop μ-loop
+shared-slice-read-x c = search needs
 
 returns : tie.Need-returns Inv-loop μ-loop
 returns c =
-    let h = c .before .before in
-    let a = h .before .args in
-    let len : length (a .t1) ≡ 32 = search needs in
-    sym (h .loop .inv ∙ ordered-free leb (at (a .until .now)) (h .loop .last) (a .t1) (h .loop .i) (omega arith) (c .if1 .taken))
+    let h = c .before .before .before in
+    let a = h .before .before .args in
+    let len : length (a .line .now) ≡ 32 = h .before .cells .given .0 in
+    sym (h .loop .inv ∙ ordered-free leb (at (a .until .now)) (h .loop .last) (a .line .now) (h .loop .i) (omega arith) (c .if1 .taken))
 
 returns-2 : tie.Need-returns-2 Inv-loop μ-loop
 returns-2 c =
-    let h = c .before .before .before in
-    let a = h .before .args in
-    let len : length (a .t1) ≡ 32 = search needs in
-    sym (h .loop .inv ∙ ordered-out leb (at (a .until .now)) (h .loop .last) (a .t1) (h .loop .i) (omega arith) (c .before .if1 .left) (c .if2 .taken))
+    let h = c .before .before .before .before in
+    let a = h .before .before .args in
+    let len : length (a .line .now) ≡ 32 = h .before .cells .given .0 in
+    sym (h .loop .inv ∙ ordered-out leb (at (a .until .now)) (h .loop .last) (a .line .now) (h .loop .i) (omega arith) (c .before .if1 .left) (c .if2 .taken))
 
 cast-j : tie.Need-cast-j Inv-loop μ-loop
 cast-j c = search needs
@@ -50,10 +50,10 @@ element-copy-out-time c = search needs
 
 returns-3 : tie.Need-returns-3 Inv-loop μ-loop
 returns-3 c =
-    let h = c .before .before .before .before .before in
-    let a = h .before .args in
-    let len : length (a .t1) ≡ 32 = search needs in
-    sym (h .loop .inv ∙ ordered-stop leb (at (a .until .now)) (h .loop .last) (a .t1) (h .loop .i) (omega arith) (c .before .before .before .if1 .left) (c .before .before .if2 .left) (lt-leb _ _ (c .if3 .taken)))
+    let h = c .before .before .before .before .before .before in
+    let a = h .before .before .args in
+    let len : length (a .line .now) ≡ 32 = h .before .cells .given .0 in
+    sym (h .loop .inv ∙ ordered-stop leb (at (a .until .now)) (h .loop .last) (a .line .now) (h .loop .i) (omega arith) (c .before .before .before .if1 .left) (c .before .before .if2 .left) (lt-leb _ _ (c .if3 .taken)))
 
 add-i : tie.Need-add-i Inv-loop μ-loop
 add-i c = search needs
@@ -63,17 +63,17 @@ loop-less c = search needs
 
 loop-again : tie.Need-loop-again Inv-loop μ-loop
 loop-again c =
-    let h = c .before .before .before .before .before in
-    let a = h .before .args in
-    let len : length (a .t1) ≡ 32 = search needs in
-    h .loop .inv ∙ ordered-step leb (at (a .until .now)) (h .loop .last) (a .t1) (h .loop .i) (omega arith) (c .before .before .before .if1 .left) (c .before .before .if2 .left) (le-leb _ _ (c .if3 .left))
+    let h = c .before .before .before .before .before .before in
+    let a = h .before .before .args in
+    let len : length (a .line .now) ≡ 32 = h .before .cells .given .0 in
+    h .loop .inv ∙ ordered-step leb (at (a .until .now)) (h .loop .last) (a .line .now) (h .loop .i) (omega arith) (c .before .before .before .if1 .left) (c .before .before .if2 .left) (le-leb _ _ (c .if3 .left))
 
 returns-4 : tie.Need-returns-4 Inv-loop μ-loop
 returns-4 c =
     let h = c .before in
-    let a = h .before .args in
-    let len : length (a .t1) ≡ 32 = search needs in
-    sym (h .loop .inv ∙ ordered-done leb (at (a .until .now)) (h .loop .last) (a .t1) (h .loop .i) (omega arith))
+    let a = h .before .before .args in
+    let len : length (a .line .now) ≡ 32 = h .before .cells .given .0 in
+    sym (h .loop .inv ∙ ordered-done leb (at (a .until .now)) (h .loop .last) (a .line .now) (h .loop .i) (omega arith))
 
 pub is-rising-spec : {M : Type 1} → statement M
 is-rising-spec =
@@ -82,7 +82,7 @@ is-rising-spec =
     Inv-loop
     μ-loop
     loop-holds
-    array-read-x
+    shared-slice-read-x
     returns
     returns-2
     cast-j

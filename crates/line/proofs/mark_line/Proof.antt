@@ -11,30 +11,30 @@ use Rattle.line.proofs.mark_line.Statement.{statement}
 use Rattle.line.proofs.mark_line.Tie as tie
 
 abbrev Inv-loop : tie.InvT-loop
-Inv-loop mark line out₀ i₀ out i = (length out ≡ 32) × (marks no-task mark line out₀ ≡ marks no-task mark (drop i line) out)
+Inv-loop line mark cells out₀ i₀ out i = (length out ≡ 32) × (marks no-task mark line out₀ ≡ marks no-task mark (drop i line) out)
 
 abbrev μ-loop : tie.MeasureT-loop
-μ-loop mark line out₀ i₀ out i = 32 - i
+μ-loop line mark cells out₀ i₀ out i = 32 - i
 
 loop-holds : tie.Need-loop-holds Inv-loop μ-loop
 loop-holds c = search needs
 
-array-read-x : tie.Need-array-read-x Inv-loop μ-loop
-array-read-x c = search needs
+shared-slice-read-x : tie.Need-shared-slice-read-x Inv-loop μ-loop
+shared-slice-read-x c = search needs
 
 returns : tie.Need-returns Inv-loop μ-loop
 returns c =
-    let h = c .before .before in
-    let a = h .before .args in
-    let len : length (a .t1) ≡ 32 = search needs in
-    sym (h .loop .inv .1 ∙ marks-stop no-task (a .mark) (a .t1) (h .loop .out) (h .loop .i) (omega arith) (rw (eq-eqb (getD (a .t1) (h .loop .i) 0) 0 (c .if1 .taken))))
+    let h = c .before .before .before in
+    let a = h .before .before .args in
+    let len : length (a .line .now) ≡ 32 = h .before .cells .given .0 in
+    sym (h .loop .inv .1 ∙ marks-stop no-task (a .mark) (a .line .now) (h .loop .out) (h .loop .i) (omega arith) (rw (eq-eqb (getD (a .line .now) (h .loop .i) 0) 0 (c .if1 .taken))))
 
 returns-2 : tie.Need-returns-2 Inv-loop μ-loop
 returns-2 c =
-    let h = c .before .before .before in
-    let a = h .before .args in
-    let len : length (a .t1) ≡ 32 = search needs in
-    sym (h .loop .inv .1 ∙ marks-stop no-task (a .mark) (a .t1) (h .loop .out) (h .loop .i) (omega arith) (rw (ne-eqb (getD (a .t1) (h .loop .i) 0) 0 (c .before .if1 .left), le-leb 32 (getD (a .t1) (h .loop .i) 0) (c .if2 .taken))))
+    let h = c .before .before .before .before in
+    let a = h .before .before .args in
+    let len : length (a .line .now) ≡ 32 = h .before .cells .given .0 in
+    sym (h .loop .inv .1 ∙ marks-stop no-task (a .mark) (a .line .now) (h .loop .out) (h .loop .i) (omega arith) (rw (ne-eqb (getD (a .line .now) (h .loop .i) 0) 0 (c .before .if1 .left), le-leb 32 (getD (a .line .now) (h .loop .i) 0) (c .if2 .taken))))
 
 cast-j : tie.Need-cast-j Inv-loop μ-loop
 cast-j c = search needs
@@ -56,19 +56,19 @@ loop-less c = search needs
 
 loop-again : tie.Need-loop-again Inv-loop μ-loop
 loop-again c =
-    let h = c .before .before .before .before in
-    let a = h .before .args in
-    let len : length (a .t1) ≡ 32 = search needs in
+    let h = c .before .before .before .before .before in
+    let a = h .before .before .args in
+    let len : length (a .line .now) ≡ 32 = h .before .cells .given .0 in
     let now : length (h .loop .out) ≡ 32 = h .loop .inv .0 in
-    let n = ne-eqb (getD (a .t1) (h .loop .i) 0) 0 (c .before .before .if1 .left) in
-    (simp length-set now, h .loop .inv .1 ∙ marks-step no-task (a .mark) (a .t1) (h .loop .out) (h .loop .i) (omega arith) (rw (n, lt-leb 32 (getD (a .t1) (h .loop .i) 0) (c .before .if2 .left))) ∙ rw (n, c .choose .ensures))
+    let n = ne-eqb (getD (a .line .now) (h .loop .i) 0) 0 (c .before .before .if1 .left) in
+    (simp length-set now, h .loop .inv .1 ∙ marks-step no-task (a .mark) (a .line .now) (h .loop .out) (h .loop .i) (omega arith) (rw (n, lt-leb 32 (getD (a .line .now) (h .loop .i) 0) (c .before .if2 .left))) ∙ rw (n, c .choose .ensures))
 
 returns-3 : tie.Need-returns-3 Inv-loop μ-loop
 returns-3 c =
     let h = c .before in
-    let a = h .before .args in
-    let len : length (a .t1) ≡ 32 = search needs in
-    sym (h .loop .inv .1 ∙ marks-done no-task (a .mark) (a .t1) (h .loop .out) (h .loop .i) (omega arith))
+    let a = h .before .before .args in
+    let len : length (a .line .now) ≡ 32 = h .before .cells .given .0 in
+    sym (h .loop .inv .1 ∙ marks-done no-task (a .mark) (a .line .now) (h .loop .out) (h .loop .i) (omega arith))
 
 pub mark-line-spec : {M : Type 1} → statement M
 mark-line-spec =
@@ -77,7 +77,7 @@ mark-line-spec =
     Inv-loop
     μ-loop
     loop-holds
-    array-read-x
+    shared-slice-read-x
     returns
     returns-2
     cast-j

@@ -33,7 +33,7 @@ accepted-requires c κs = search needs
 
 returns : tie.Need-returns
 unfolding closedOf
-returns c = rw (c .accepted .ensures, c .before .at-level .ensures, c .before .before .without-front .ensures, c .before .before .before .one-more .ensures, c .before .before .before .before .of-task .ensures, c .before .before .before .before .before .with-task2 .ensures, c .before .before .before .before .before .before .with-task .ensures)
+returns c = rw (c .accepted .ensures, c .before .at-level .ensures, c .before .before .without-front .ensures, c .before .before .before .one-more .ensures, c .before .before .before .before .of-task .ensures, c .before .before .before .before .before .before .with-task2 .ensures, c .before .before .before .before .before .before .before .with-task .ensures)
 
 pub closed-spec : {M : Type 1} → statement M
 closed-spec =

@@ -3,8 +3,8 @@ use borrow.Author.Needs.{needs}
 use Rattle.kernel.proofs.command.looked_at.Statement.{statement}
 use Rattle.kernel.proofs.command.looked_at.Tie as tie
 
-array-read-t15 : tie.Need-array-read-t15
-array-read-t15 c = search needs
+element-copy-out-t14 : tie.Need-element-copy-out-t14
+element-copy-out-t14 c = search needs
 
 of-task-requires : tie.Need-of-task-requires
 of-task-requires c κs = search needs
@@ -34,7 +34,7 @@ pub looked-at-spec : {M : Type 1} → statement M
 looked-at-spec =
     tie.close
     (tie.spec
-    array-read-t15
+    element-copy-out-t14
     of-task-requires
     of-task-requires-2
     of-task-requires-3

@@ -11,16 +11,16 @@ use Rattle.kernel.proofs.test.holders_fit.Statement.{statement}
 use Rattle.kernel.proofs.test.holders_fit.Tie as tie
 
 abbrev Inv-loop : tie.InvT-loop
-Inv-loop base held ceiling taken₀ t₀ taken t = (length taken ≡ 8) × (holdersFit ceiling (replicate 8 0) base held ≡ holdersFit ceiling taken (drop t base) (drop t held))
+Inv-loop base held ceiling bases hands taken₀ t₀ taken t = (length taken ≡ 8) × (holdersFit ceiling (replicate 8 0) base held ≡ holdersFit ceiling taken (drop t base) (drop t held))
 
 abbrev μ-loop : tie.MeasureT-loop
-μ-loop base held ceiling taken₀ t₀ taken t = 32 - t
+μ-loop base held ceiling bases hands taken₀ t₀ taken t = 32 - t
 
 loop-holds : tie.Need-loop-holds Inv-loop μ-loop
 loop-holds c = (search needs, refl)
 
-array-read-o : tie.Need-array-read-o Inv-loop μ-loop
-array-read-o c = search needs
+shared-slice-read-o : tie.Need-shared-slice-read-o Inv-loop μ-loop
+shared-slice-read-o c = search needs
 
 add-t : tie.Need-add-t Inv-loop μ-loop
 add-t c = search needs
@@ -30,19 +30,19 @@ loop-less c = search needs
 
 loop-again : tie.Need-loop-again Inv-loop μ-loop
 loop-again c =
-    let h = c .before .before in
-    let a = h .before .args in
-    let len : length (a .t2) ≡ 32 = search needs in
-    let all : length (a .t1) ≡ 32 = search needs in
-    (h .loop .inv .0, h .loop .inv .1 ∙ holders-skip (a .t3) (h .loop .taken) (a .t1) (a .t2) (h .loop .t) (omega arith) (omega arith) (c .if1 .taken))
+    let h = c .before .before .before in
+    let a = h .before .before .before .args in
+    let len : length (a .held .now) ≡ 32 = h .before .hands .given .0 in
+    let all : length (a .base .now) ≡ 32 = h .before .before .bases .given .0 in
+    (h .loop .inv .0, h .loop .inv .1 ∙ holders-skip (a .t3) (h .loop .taken) (a .base .now) (a .held .now) (h .loop .t) (omega arith) (omega arith) (c .if1 .taken))
 
 returns : tie.Need-returns Inv-loop μ-loop
 returns c =
-    let h = c .before .before .before in
-    let a = h .before .args in
-    let len : length (a .t2) ≡ 32 = search needs in
-    let all : length (a .t1) ≡ 32 = search needs in
-    sym (h .loop .inv .1 ∙ holders-out (a .t3) (h .loop .taken) (a .t1) (a .t2) (h .loop .t) (omega arith) (omega arith) (c .before .if1 .left) (c .if2 .taken))
+    let h = c .before .before .before .before in
+    let a = h .before .before .before .args in
+    let len : length (a .held .now) ≡ 32 = h .before .hands .given .0 in
+    let all : length (a .base .now) ≡ 32 = h .before .before .bases .given .0 in
+    sym (h .loop .inv .1 ∙ holders-out (a .t3) (h .loop .taken) (a .base .now) (a .held .now) (h .loop .t) (omega arith) (omega arith) (c .before .if1 .left) (c .if2 .taken))
 
 cast-j : tie.Need-cast-j Inv-loop μ-loop
 cast-j c = search needs
@@ -53,19 +53,19 @@ array-read-free c = search needs
 array-read-admits : tie.Need-array-read-admits Inv-loop μ-loop
 array-read-admits c = search needs
 
-array-read-admits-2 : tie.Need-array-read-admits-2 Inv-loop μ-loop
-array-read-admits-2 c = search needs
+shared-slice-read-admits : tie.Need-shared-slice-read-admits Inv-loop μ-loop
+shared-slice-read-admits c = search needs
 
 admits-requires : tie.Need-admits-requires Inv-loop μ-loop
 admits-requires c κs = search needs
 
 returns-2 : tie.Need-returns-2 Inv-loop μ-loop
 returns-2 c =
-    let h = c .before .before .before .before .before in
-    let a = h .before .args in
-    let len : length (a .t2) ≡ 32 = search needs in
-    let all : length (a .t1) ≡ 32 = search needs in
-    sym (h .loop .inv .1 ∙ holders-stop (a .t3) (h .loop .taken) (a .t1) (a .t2) (h .loop .t) (omega arith) (omega arith) (c .before .before .before .if1 .left) (c .before .before .if2 .left) (rw (← c .before .admits .ensures) (not-true _ (c .if3 .taken))))
+    let h = c .before .before .before .before .before .before .before in
+    let a = h .before .before .before .args in
+    let len : length (a .held .now) ≡ 32 = h .before .hands .given .0 in
+    let all : length (a .base .now) ≡ 32 = h .before .before .bases .given .0 in
+    sym (h .loop .inv .1 ∙ holders-stop (a .t3) (h .loop .taken) (a .base .now) (a .held .now) (h .loop .t) (omega arith) (omega arith) (c .before .before .before .before .if1 .left) (c .before .before .before .if2 .left) (rw (← c .before .admits .ensures) (not-true _ (c .if3 .taken))))
 
 array-write-taken : tie.Need-array-write-taken Inv-loop μ-loop
 array-write-taken c = search needs
@@ -78,20 +78,20 @@ loop-less-2 c = search needs
 
 loop-again-2 : tie.Need-loop-again-2 Inv-loop μ-loop
 loop-again-2 c =
-    let h = c .before .before .before .before .before in
-    let a = h .before .args in
-    let len : length (a .t2) ≡ 32 = search needs in
-    let all : length (a .t1) ≡ 32 = search needs in
+    let h = c .before .before .before .before .before .before .before in
+    let a = h .before .before .before .args in
+    let len : length (a .held .now) ≡ 32 = h .before .hands .given .0 in
+    let all : length (a .base .now) ≡ 32 = h .before .before .bases .given .0 in
     let now : length (h .loop .taken) ≡ 8 = h .loop .inv .0 in
-    (simp length-set now, h .loop .inv .1 ∙ holders-step (a .t3) (h .loop .taken) (a .t1) (a .t2) (h .loop .t) (omega arith) (omega arith) (c .before .before .before .if1 .left) (c .before .before .if2 .left) (rw (← c .before .admits .ensures) (not-false _ (c .if3 .left))))
+    (simp length-set now, h .loop .inv .1 ∙ holders-step (a .t3) (h .loop .taken) (a .base .now) (a .held .now) (h .loop .t) (omega arith) (omega arith) (c .before .before .before .before .if1 .left) (c .before .before .before .if2 .left) (rw (← c .before .admits .ensures) (not-false _ (c .if3 .left))))
 
 returns-3 : tie.Need-returns-3 Inv-loop μ-loop
 returns-3 c =
     let h = c .before in
-    let a = h .before .args in
-    let len : length (a .t2) ≡ 32 = search needs in
-    let all : length (a .t1) ≡ 32 = search needs in
-    sym (h .loop .inv .1 ∙ holders-done (a .t3) (h .loop .taken) (a .t1) (a .t2) (h .loop .t) (omega arith))
+    let a = h .before .before .before .args in
+    let len : length (a .held .now) ≡ 32 = h .before .hands .given .0 in
+    let all : length (a .base .now) ≡ 32 = h .before .before .bases .given .0 in
+    sym (h .loop .inv .1 ∙ holders-done (a .t3) (h .loop .taken) (a .base .now) (a .held .now) (h .loop .t) (omega arith))
 
 pub holders-fit-spec : {M : Type 1} → statement M
 holders-fit-spec =
@@ -100,7 +100,7 @@ holders-fit-spec =
     Inv-loop
     μ-loop
     loop-holds
-    array-read-o
+    shared-slice-read-o
     add-t
     loop-less
     loop-again
@@ -108,7 +108,7 @@ holders-fit-spec =
     cast-j
     array-read-free
     array-read-admits
-    array-read-admits-2
+    shared-slice-read-admits
     admits-requires
     returns-2
     array-write-taken

@@ -20,17 +20,17 @@ loop-holds : tie.Need-loop-holds Inv-loop μ-loop
 unfolding all-below
 loop-holds c = (omega arith, refl)
 
-array-read-task-fits : tie.Need-array-read-task-fits Inv-loop μ-loop
-array-read-task-fits c = search needs
+element-copy-out-task-fits : tie.Need-element-copy-out-task-fits Inv-loop μ-loop
+element-copy-out-task-fits c = search needs
 
-array-read-task-fits-2 : tie.Need-array-read-task-fits-2 Inv-loop μ-loop
-array-read-task-fits-2 c = search needs
+element-copy-out-task-fits-2 : tie.Need-element-copy-out-task-fits-2 Inv-loop μ-loop
+element-copy-out-task-fits-2 c = search needs
 
-array-read-task-fits-3 : tie.Need-array-read-task-fits-3 Inv-loop μ-loop
-array-read-task-fits-3 c = search needs
+element-copy-out-task-fits-3 : tie.Need-element-copy-out-task-fits-3 Inv-loop μ-loop
+element-copy-out-task-fits-3 c = search needs
 
-array-read-task-fits-4 : tie.Need-array-read-task-fits-4 Inv-loop μ-loop
-array-read-task-fits-4 c = search needs
+element-copy-out-task-fits-4 : tie.Need-element-copy-out-task-fits-4 Inv-loop μ-loop
+element-copy-out-task-fits-4 c = search needs
 
 task-fits-requires : tie.Need-task-fits-requires Inv-loop μ-loop
 task-fits-requires c κs = search needs
@@ -43,9 +43,9 @@ loop-less c = search needs
 
 loop-again : tie.Need-loop-again Inv-loop μ-loop
 loop-again c =
-    let h = c .before .before in
+    let h = c .before .before .before .before .before .before in
     let a = h .before .args in
-    (omega arith, ap (λ (x : Bool). x && h .loop .fit) (c .task-fits .ensures) ∙ gather (λ t. taskFits (at (a .t1) t) (at (a .t2) t) (at (a .t3) t) (at (a .t4) t)) (h .loop .t) (h .loop .fit) (h .loop .inv .1))
+    (omega arith, ap (λ (x : Bool). x && h .loop .fit) (c .task-fits .ensures) ∙ gather (λ t. taskFits (at (a .base .now) t) (at (a .place .now) t) (at (a .held .now) t) (at (a .way .now) t)) (h .loop .t) (h .loop .fit) (h .loop .inv .1))
 
 returns : tie.Need-returns Inv-loop μ-loop
 unfolding tasksFit
@@ -62,10 +62,10 @@ tasks-fit-spec =
     Inv-loop
     μ-loop
     loop-holds
-    array-read-task-fits
-    array-read-task-fits-2
-    array-read-task-fits-3
-    array-read-task-fits-4
+    element-copy-out-task-fits
+    element-copy-out-task-fits-2
+    element-copy-out-task-fits-3
+    element-copy-out-task-fits-4
     task-fits-requires
     add-t
     loop-less

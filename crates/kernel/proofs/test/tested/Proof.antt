@@ -37,15 +37,15 @@ holders-fit-requires c κs = search needs
 objects-fit-requires : tie.Need-objects-fit-requires
 objects-fit-requires c κs = search needs
 
-array-read-is-calm : tie.Need-array-read-is-calm
-array-read-is-calm c = search needs
+element-copy-out-is-calm : tie.Need-element-copy-out-is-calm
+element-copy-out-is-calm c = search needs
 
 is-calm-requires : tie.Need-is-calm-requires
 is-calm-requires c κs = search needs
 
 returns : tie.Need-returns
 unfolding testOf placesOf
-returns c = rw (c .is-calm .ensures, c .before .objects-fit .ensures, c .before .before .holders-fit .ensures, c .before .before .before .times-fit .ensures, c .before .before .before .before .tasks-fit .ensures, c .before .before .before .before .before .mark-waiting .ensures, c .before .before .before .before .before .before .mark-line2 .ensures, c .before .before .before .before .before .before .before .mark-line .ensures, c .before .before .before .before .before .before .before .before .is-rising .ensures, c .before .before .before .before .before .before .before .before .before .is-falling .ensures, c .before .before .before .before .before .before .before .before .before .before .is-ended2 .ensures, c .before .before .before .before .before .before .before .before .before .before .before .is-ended .ensures)
+returns c = rw (c .is-calm .ensures, c .before .before .objects-fit .ensures, c .before .before .before .holders-fit .ensures, c .before .before .before .before .times-fit .ensures, c .before .before .before .before .before .before .tasks-fit .ensures, c .before .before .before .before .before .before .before .before .mark-waiting .ensures, c .before .before .before .before .before .before .before .before .before .mark-line2 .ensures, c .before .before .before .before .before .before .before .before .before .before .mark-line .ensures, c .before .before .before .before .before .before .before .before .before .before .before .is-rising .ensures, c .before .before .before .before .before .before .before .before .before .before .before .before .is-falling .ensures, c .before .before .before .before .before .before .before .before .before .before .before .before .before .is-ended2 .ensures, c .before .before .before .before .before .before .before .before .before .before .before .before .before .before .is-ended .ensures)
 
 pub tested-spec : {M : Type 1} → statement M
 tested-spec =
@@ -62,6 +62,6 @@ tested-spec =
     times-fit-requires
     holders-fit-requires
     objects-fit-requires
-    array-read-is-calm
+    element-copy-out-is-calm
     is-calm-requires
     returns)

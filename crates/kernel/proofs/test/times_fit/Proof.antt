@@ -27,8 +27,8 @@ mul-fit c = search needs
 element-copy-out-fit : tie.Need-element-copy-out-fit Inv-loop μ-loop
 element-copy-out-fit c = search needs
 
-array-read-fit : tie.Need-array-read-fit Inv-loop μ-loop
-array-read-fit c = search needs
+element-copy-out-fit-2 : tie.Need-element-copy-out-fit-2 Inv-loop μ-loop
+element-copy-out-fit-2 c = search needs
 
 add-t : tie.Need-add-t Inv-loop μ-loop
 add-t c = search needs
@@ -38,9 +38,9 @@ loop-less c = search needs
 
 loop-again : tie.Need-loop-again Inv-loop μ-loop
 loop-again c =
-    let h = c .before .before in
+    let h = c .before .before .before in
     let a = h .before .args in
-    (omega arith, gather (λ t. eqb (at (a .until .now) t) 0 || eqb (at (a .t2) t) 2) (h .loop .t) (h .loop .fit) (h .loop .inv .1))
+    (omega arith, gather (λ t. eqb (at (a .until .now) t) 0 || eqb (at (a .place .now) t) 2) (h .loop .t) (h .loop .fit) (h .loop .inv .1))
 
 returns : tie.Need-returns Inv-loop μ-loop
 unfolding timesFit
@@ -59,7 +59,7 @@ times-fit-spec =
     loop-holds
     mul-fit
     element-copy-out-fit
-    array-read-fit
+    element-copy-out-fit-2
     add-t
     loop-less
     loop-again
