@@ -16,7 +16,7 @@ use Rattle.rules.proofs.Lists.{all-map, eq-or-ne, set-either}
 use Rattle.rules.proofs.Tests.{Tests, tests-and, tests-le, tests-ne, and-true}
 use Rattle.line.specs.Tables.{no-task, ordered, met, marks}
 use Rattle.kernel.specs.View.{live}
-use Rattle.kernel.specs.Test.{admits, holdersFit}
+use Rattle.soundness.specs.Test.{admits, holdersFit}
 
 -- The marks. A task met n more times, from the mark v on.
 unfoldable pub tally : ℕ → ℕ → ℕ → ℕ

@@ -20,7 +20,9 @@ use Rattle.line.specs.Tables.{level, ended, marks, no-task}
 use Rattle.kernel.specs.declared.Kernel.{Kernel}
 use Rattle.kernel.specs.View.{live, with-idle, timed, nobody-or, view, tidy}
 use Rattle.kernel.specs.Public.{isSound}
-use Rattle.kernel.specs.Test.{placesOf, tasksFit, timesFit, objectsFit, testOf}
+use Rattle.soundness.specs.Test.{tasksFit, timesFit, objectsFit}
+use Rattle.soundness.specs.Test as table
+use Rattle.kernel.specs.Test.{placesOf, testOf}
 use Rattle.kernel.proofs.Padded.{tasks-timed}
 use Rattle.kernel.proofs.Round.{Tidy, tests-tidy, all-index}
 use Rattle.kernel.proofs.Marks as M
@@ -123,7 +125,7 @@ module _ (k : Kernel) (ra : All (λ x. x < 32) (live (k .ready))) (da : All (λ 
   idle-mark = first-mark 0 ∙ rw (real-none (live (k .ready)) (live-real (k .ready)), real-none (live (k .delayed)) (live-real (k .delayed)))
 
   all-marks : (length (placesOf k) ≡ 32) × (at (placesOf k) 0 ≡ 0) × ((t : ℕ) → t ≢ 0 → at (placesOf k) t ≡ tally 3 (at s2 t) (count t (k .waiter)))
-  unfolding placesOf s0 s1 s2
+  unfolding table.places s0 s1 s2
   all-marks = waiter-marks 3 (k .waiter) s2 wa (delay-marks .0) idle-mark
 
   pub mark-of : (t : ℕ) → t ≢ 0 → Spot (count t (live (k .ready))) (count t (live (k .delayed))) (count t (k .waiter)) (at (placesOf k) t)
@@ -161,7 +163,7 @@ record Passed (k : Kernel) : Type 0 where
   quiet : k .started ≢ true → Quiet k
 
 tests-passed : (k : Kernel) → Sizes k → Tests (testOf k) (Passed k)
-unfolding testOf tasksFit timesFit objectsFit
+unfolding table.testOf tasksFit timesFit objectsFit
 tests-passed k z =
     tests-map
     (λ w. record { ready-ended = w .0 .0 .0 .0 .0 .0 .0 .0; delayed-ended = w .0 .0 .0 .0 .0 .0 .0 .1; falls = w .0 .0 .0 .0 .0 .0 .1; rises = w .0 .0 .0 .0 .0 .1; tasks = w .0 .0 .0 .0 .1; timed = w .0 .0 .0 .1; holders = w .0 .0 .1; objects = w .0 .1; quiet = w .1 })

@@ -2,12 +2,11 @@
 ghost use mathlib.Core.Path.{_≡_};
 ghost use Rattle.rules.specs.Machine.{fresh};
 ghost use Rattle.kernel.specs.View.{encode};
-ghost use Rattle.kernel.specs.Public.{said, stepOf, leftOf};
+ghost use Rattle.kernel.specs.Public.{said, isSound, stepOf, leftOf};
 ghost use Rattle.kernel.specs.Step as step;
 
 mod command;
 mod ops;
-mod test;
 
 pub use command::Answer;
 pub use command::Command;
@@ -73,13 +72,33 @@ impl Kernel {
         }
     }
 
+    // Document 01's conditions hold, and every unused cell is 0.
+    pub fn sound(self) -> bool
+        ensures { λ r. ⌜ r ≡ isSound self ⌝ }
+    {
+        let ceiling = self.ceiling;
+        let waiter = self.waiter;
+        soundness::tested(
+            &self.base,
+            &self.ready,
+            &self.delayed,
+            &self.held,
+            &self.way,
+            &self.until,
+            ceiling,
+            waiter,
+            self.clock,
+            self.started,
+        )
+    }
+
     // A state that is not sound is answered 1, 0, 0 and comes back as it is; a refused command its number and the same state.
     pub fn step(self, c: Command) -> Stepped
         ensures { λ r. ⌜ r ≡ stepOf self (said c) ⌝ }
     {
         let ceiling = self.ceiling;
         let waiter = self.waiter;
-        if !test::tested(
+        if !soundness::tested(
             &self.base,
             &self.ready,
             &self.delayed,

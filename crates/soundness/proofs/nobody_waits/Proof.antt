@@ -8,8 +8,8 @@ use Rattle.line.specs.Tables.{zeros}
 use mathlib.Core.Bool.{_&&_}
 use lib.Dec.{eqb}
 use borrow.Author.Needs.{needs}
-use Rattle.kernel.proofs.test.nobody_waits.Statement.{statement}
-use Rattle.kernel.proofs.test.nobody_waits.Tie as tie
+use Rattle.soundness.proofs.nobody_waits.Statement.{statement}
+use Rattle.soundness.proofs.nobody_waits.Tie as tie
 
 abbrev Inv-loop : tie.InvT-loop
 Inv-loop waiter free₀ i₀ free i = (i ≤ 8) × (zeros waiter ≡ free && zeros (drop i waiter))

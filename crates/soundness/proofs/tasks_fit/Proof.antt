@@ -2,13 +2,13 @@
 use Prim.Native.Nat.{_-_, _≤_}
 use mathlib.Core.Path.{_≡_, refl, ap, _∙_}
 use native.Mathlib.Omega.{arith}
-use Rattle.kernel.proofs.Loops.{gather}
-use Rattle.kernel.specs.Test.{tasksFit, taskFits}
+use Rattle.soundness.proofs.Loops.{gather}
+use Rattle.soundness.specs.Test.{tasksFit, taskFits}
 use Rattle.rules.specs.Line.{at, all-below}
 use mathlib.Core.Bool.{Bool, _&&_}
 use borrow.Author.Needs.{needs}
-use Rattle.kernel.proofs.test.tasks_fit.Statement.{statement}
-use Rattle.kernel.proofs.test.tasks_fit.Tie as tie
+use Rattle.soundness.proofs.tasks_fit.Statement.{statement}
+use Rattle.soundness.proofs.tasks_fit.Tie as tie
 
 abbrev Inv-loop : tie.InvT-loop
 Inv-loop base place held way fit₀ t₀ fit t = (t ≤ 32) × (fit ≡ all-below t (λ t. taskFits (at base t) (at place t) (at held t) (at way t)))

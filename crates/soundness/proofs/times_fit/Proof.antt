@@ -2,14 +2,14 @@
 use Prim.Native.Nat.{_-_, _≤_}
 use mathlib.Core.Path.{_≡_, refl}
 use native.Mathlib.Omega.{arith}
-use Rattle.kernel.proofs.Loops.{gather}
-use Rattle.kernel.specs.Test.{timesFit}
+use Rattle.soundness.proofs.Loops.{gather}
+use Rattle.soundness.specs.Test.{timesFit}
 use Rattle.rules.specs.Line.{at, all-below}
 use mathlib.Core.Bool.{_||_}
 use lib.Dec.{eqb}
 use borrow.Author.Needs.{needs}
-use Rattle.kernel.proofs.test.times_fit.Statement.{statement}
-use Rattle.kernel.proofs.test.times_fit.Tie as tie
+use Rattle.soundness.proofs.times_fit.Statement.{statement}
+use Rattle.soundness.proofs.times_fit.Tie as tie
 
 abbrev Inv-loop : tie.InvT-loop
 Inv-loop until place fit₀ t₀ fit t = (t ≤ 32) × (fit ≡ all-below t (λ t. eqb (at until t) 0 || eqb (at place t) 2))

@@ -1,7 +1,7 @@
 -- `is_calm` meets its contract, by its test. Assumes nothing.
 use borrow.Author.Needs.{needs}
-use Rattle.kernel.proofs.test.is_calm.Statement.{statement}
-use Rattle.kernel.proofs.test.is_calm.Tie as tie
+use Rattle.soundness.proofs.is_calm.Statement.{statement}
+use Rattle.soundness.proofs.is_calm.Tie as tie
 
 returns : tie.Need-returns
 returns c = rw (c .if1 .taken)

@@ -3,12 +3,12 @@ use Prim.Native.Nat.{_-_}
 use mathlib.Core.Path.{_≡_, refl, sym, _∙_}
 use native.Mathlib.Omega.{arith}
 use lib.ListN.{length, drop, replicate, length-set}
-use Rattle.kernel.proofs.Loops.{holders-skip, holders-out, holders-stop, holders-step, holders-done}
-use Rattle.kernel.specs.Test.{holdersFit, admits}
+use Rattle.soundness.proofs.Loops.{holders-skip, holders-out, holders-stop, holders-step, holders-done}
+use Rattle.soundness.specs.Test.{holdersFit, admits}
 use borrow.Author.Tests.{not-true, not-false}
 use borrow.Author.Needs.{needs}
-use Rattle.kernel.proofs.test.holders_fit.Statement.{statement}
-use Rattle.kernel.proofs.test.holders_fit.Tie as tie
+use Rattle.soundness.proofs.holders_fit.Statement.{statement}
+use Rattle.soundness.proofs.holders_fit.Tie as tie
 
 abbrev Inv-loop : tie.InvT-loop
 Inv-loop base held ceiling bases hands taken₀ t₀ taken t = (length taken ≡ 8) × (holdersFit ceiling (replicate 8 0) base held ≡ holdersFit ceiling taken (drop t base) (drop t held))

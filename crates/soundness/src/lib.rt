@@ -2,10 +2,7 @@
 ghost use mathlib.Core.Path.{_≡_};
 ghost use lib.ListN.{replicate};
 ghost use Rattle.line.specs.Tables.{zeros};
-ghost use Rattle.kernel.specs.Public.{isSound};
-ghost use Rattle.kernel.specs.Test as test;
-use crate::Kernel;
-use line::POId;
+ghost use Rattle.soundness.specs.Test as test;
 use line::TaskID;
 
 // Where a task stands: nowhere is 0, in both or twice is 9.
@@ -135,7 +132,7 @@ fn is_calm(started: bool, clock: u64, first: u8, waiter: [u8; 8], held: &[u8; 32
 }
 
 // The whole test, table by table: the state itself goes into no call, and a table of 32 is lent.
-pub(crate) fn tested<'a>(
+pub fn tested<'a>(
     base: &'a [u8; 32],
     ready: &'a [u8; 32],
     delayed: &'a [u8; 32],
@@ -147,7 +144,7 @@ pub(crate) fn tested<'a>(
     clock: u64,
     started: bool,
 ) -> bool
-    ensures { λ r. ⌜ r ≡ test.testOf (test.tables (now (base .entry)) (now (ready .entry)) (now (delayed .entry)) (now (held .entry)) (now (way .entry)) (now (until .entry)) ceiling waiter clock started) ⌝ }
+    ensures { λ r. ⌜ r ≡ test.testOf (now (base .entry)) (now (ready .entry)) (now (delayed .entry)) (now (held .entry)) (now (way .entry)) (now (until .entry)) ceiling waiter clock started ⌝ }
 {
     let ended = line::is_ended(ready) & line::is_ended(delayed);
     let falling = line::is_falling(ready, base, ceiling, held);
@@ -161,25 +158,4 @@ pub(crate) fn tested<'a>(
     let objects = objects_fit(base, ceiling, waiter);
     let calm = is_calm(started, clock, delayed[0], waiter, held);
     ended & falling & rising & tasks & times & holders & objects & calm
-}
-
-impl Kernel {
-    pub fn sound(self) -> bool
-        ensures { λ r. ⌜ r ≡ isSound self ⌝ }
-    {
-        let ceiling = self.ceiling;
-        let waiter = self.waiter;
-        tested(
-            &self.base,
-            &self.ready,
-            &self.delayed,
-            &self.held,
-            &self.way,
-            &self.until,
-            ceiling,
-            waiter,
-            self.clock,
-            self.started,
-        )
-    }
 }

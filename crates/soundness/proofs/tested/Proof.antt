@@ -1,8 +1,8 @@
 -- `tested` meets its contract: each part of the test is its callee's contract. Assumes nothing.
-use Rattle.kernel.specs.Test.{testOf, placesOf}
+use Rattle.soundness.specs.Test.{testOf, places}
 use borrow.Author.Needs.{needs}
-use Rattle.kernel.proofs.test.tested.Statement.{statement}
-use Rattle.kernel.proofs.test.tested.Tie as tie
+use Rattle.soundness.proofs.tested.Statement.{statement}
+use Rattle.soundness.proofs.tested.Tie as tie
 
 is-ended-requires : tie.Need-is-ended-requires
 is-ended-requires c κs = search needs
@@ -44,7 +44,7 @@ is-calm-requires : tie.Need-is-calm-requires
 is-calm-requires c κs = search needs
 
 returns : tie.Need-returns
-unfolding testOf placesOf
+unfolding testOf places
 returns c = rw (c .is-calm .ensures, c .before .before .objects-fit .ensures, c .before .before .before .holders-fit .ensures, c .before .before .before .before .times-fit .ensures, c .before .before .before .before .before .before .tasks-fit .ensures, c .before .before .before .before .before .before .before .before .mark-waiting .ensures, c .before .before .before .before .before .before .before .before .before .mark-line2 .ensures, c .before .before .before .before .before .before .before .before .before .before .mark-line .ensures, c .before .before .before .before .before .before .before .before .before .before .before .is-rising .ensures, c .before .before .before .before .before .before .before .before .before .before .before .before .is-falling .ensures, c .before .before .before .before .before .before .before .before .before .before .before .before .before .is-ended2 .ensures, c .before .before .before .before .before .before .before .before .before .before .before .before .before .before .is-ended .ensures)
 
 pub tested-spec : {M : Type 1} → statement M
