@@ -76,8 +76,6 @@ impl Kernel {
     pub fn sound(self) -> bool
         ensures { λ r. ⌜ r ≡ isSound self ⌝ }
     {
-        let ceiling = self.ceiling;
-        let waiter = self.waiter;
         soundness::tested(
             &self.base,
             &self.ready,
@@ -85,8 +83,8 @@ impl Kernel {
             &self.held,
             &self.way,
             &self.until,
-            ceiling,
-            waiter,
+            self.ceiling,
+            self.waiter,
             self.clock,
             self.started,
         )
@@ -96,8 +94,6 @@ impl Kernel {
     pub fn step(self, c: Command) -> Stepped
         ensures { λ r. ⌜ r ≡ stepOf self (said c) ⌝ }
     {
-        let ceiling = self.ceiling;
-        let waiter = self.waiter;
         if !soundness::tested(
             &self.base,
             &self.ready,
@@ -105,8 +101,8 @@ impl Kernel {
             &self.held,
             &self.way,
             &self.until,
-            ceiling,
-            waiter,
+            self.ceiling,
+            self.waiter,
             self.clock,
             self.started,
         ) {
@@ -121,8 +117,8 @@ impl Kernel {
             &self.ready,
             &self.held,
             &self.way,
-            ceiling,
-            waiter,
+            self.ceiling,
+            self.waiter,
             self.clock,
             self.started,
         );
@@ -133,6 +129,13 @@ impl Kernel {
                 answer: refused(code, line::choose(self.started, self.ready[0], 0)),
             };
         }
+        self.carried(c)
+    }
+
+    // An accepted command, carried out.
+    fn carried(self, c: Command) -> Stepped
+        ensures { λ r. ⌜ r ≡ step.carriedOf self (said c) ⌝ }
+    {
         let op = c.op;
         match op {
             1 => self.created(TaskID(c.a), c.b),
