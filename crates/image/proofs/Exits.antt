@@ -15,7 +15,11 @@ use Rattle.kernel.specs.declared.Stepped.{Stepped}
 use Rattle.kernel.specs.declared.Left.{Left}
 use Rattle.kernel.specs.Public.{isSound, report, shape, stepOf, leftOf}
 use Rattle.image.specs.Layout.{imageOf, kernelOf, clean, isImage}
-use Rattle.image.specs.Calls.{packed, packedLeft, stepAnswer, stepImage, leftAnswer}
+use Rattle.generator.specs.declared.Profile.{Profile}
+use Rattle.generator.specs.declared.Drawn.{Drawn}
+use Rattle.generator.specs.Public.{drawnOf, refusedOf}
+use Rattle.generator.proofs.Shipped.{refused-leaves}
+use Rattle.image.specs.Calls.{packed, packedLeft, stepAnswer, stepImage, leftAnswer, toldProfile, drawOn, packedDrawn, drawAnswer, drawSeed, drawValue}
 
 -- Bytes that are no image.
 short : (s : List ℕ) → length s ≢ 512 → isImage s ≡ false
@@ -54,6 +58,10 @@ unsound k c e = rw e
 unsound-left : (k : Kernel) (t : ℕ) → isSound k ≡ false → leftOf k t ≡ record { code = 1; left = 0 }
 unfolding leftOf
 unsound-left k t e = rw e
+
+unsound-draw : (k : Kernel) (seed : ℕ) (p : Profile) → isSound k ≡ false → drawnOf k seed p ≡ refusedOf 1 seed
+unfolding drawnOf
+unsound-draw k seed p e = rw e
 
 -- The kernel's step, sound or not, is what the call answers.
 module _ (s : List ℕ) (c : Command) (l : length s ≡ 512) (h : clean s ≡ true) where
@@ -101,3 +109,56 @@ module _ (s : List ℕ) (t : ℕ) where
       go : (b : Bool) → isSound (kernelOf s) ≡ b → packedLeft (leftOf (kernelOf s) t) ≡ cond b (packedLeft (leftOf (kernelOf s) t)) 1
       go true e = refl
       go false e = rw (unsound-left (kernelOf s) t e)
+
+-- The draw.
+module _ (s : List ℕ) (seed : ℕ) (p : Profile) where
+  no-draw : isImage s ≡ false → refusedOf 1 seed ≡ drawOn s seed p
+  unfolding drawOn
+  no-draw h = rw h
+
+  pub wrong-length-draw : length s ≢ 512 → refusedOf 1 seed ≡ drawOn s seed p
+  wrong-length-draw h = no-draw (short s h)
+
+  pub not-clean-draw : clean s ≡ false → refusedOf 1 seed ≡ drawOn s seed p
+  not-clean-draw h = no-draw (stained s h)
+
+  pub answered-draw : length s ≡ 512 → clean s ≡ true → drawnOf (kernelOf s) seed p ≡ drawOn s seed p
+  unfolding drawOn
+  answered-draw l h = rw (image-sound s l h) (go (isSound (kernelOf s)) refl)
+    where
+      go : (b : Bool) → isSound (kernelOf s) ≡ b → drawnOf (kernelOf s) seed p ≡ cond b (drawnOf (kernelOf s) seed p) (refusedOf 1 seed)
+      go true e = refl
+      go false e = unsound-draw (kernelOf s) seed p e
+
+-- A refused draw leaves the seed.
+seed-stays : (s : List ℕ) (seed : ℕ) (p : Profile) → drawOn s seed p .code ≢ 0 → drawOn s seed p .seed ≡ seed
+unfolding drawOn
+seed-stays s seed p = go (isImage s)
+  where
+    go : (b : Bool) → cond b (drawnOf (kernelOf s) seed p) (refusedOf 1 seed) .code ≢ 0 → cond b (drawnOf (kernelOf s) seed p) (refusedOf 1 seed) .seed ≡ seed
+    go true n = ap (λ (d : Drawn). d .seed) (refused-leaves (kernelOf s) seed p n)
+    go false n = refl
+
+-- What the call answers, and the seed and the value that it leaves.
+module _ (s : List ℕ) (seed span : ℕ) (weights : List ℕ) (value : ℕ) {r : ℕ} {d : Drawn} (packing : r ≡ packedDrawn d) (drawing : d ≡ drawOn s seed (toldProfile span weights)) where
+  abbrev found : Drawn
+  found = drawOn s seed (toldProfile span weights)
+
+  packed-so : r ≡ drawAnswer s seed span weights
+  unfolding drawAnswer
+  packed-so = packing ∙ ap packedDrawn drawing
+
+  code-so : d .code ≡ found .code
+  code-so = ap (λ (e : Drawn). e .code) drawing
+
+  pub refused-draw : d .code ≢ 0 → (r ≡ drawAnswer s seed span weights) × (seed ≡ drawSeed s seed span weights) × (value ≡ drawValue s seed span weights value)
+  unfolding drawSeed drawValue
+  refused-draw n = (
+    packed-so,
+    sym (seed-stays s seed (toldProfile span weights) (λ e. n (code-so ∙ e))),
+    rw (ne-eqb (found .code) 0 (λ e. n (code-so ∙ e))),
+  )
+
+  pub accepted-draw : d .code ≡ 0 → (r ≡ drawAnswer s seed span weights) × (d .seed ≡ drawSeed s seed span weights) × (d .command .value ≡ drawValue s seed span weights value)
+  unfolding drawSeed drawValue
+  accepted-draw e = (packed-so, ap (λ (x : Drawn). x .seed) drawing, rw (eq-eqb (found .code) 0 (sym code-so ∙ e)) (ap (λ (x : Drawn). x .command .value) drawing))
