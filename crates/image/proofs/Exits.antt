@@ -130,13 +130,13 @@ module _ (s : List ℕ) (seed : ℕ) (p : Profile) where
       go true e = refl
       go false e = unsound-draw (kernelOf s) seed p e
 
--- A refused draw leaves the seed.
-seed-stays : (s : List ℕ) (seed : ℕ) (p : Profile) → drawOn s seed p .code ≢ 0 → drawOn s seed p .seed ≡ seed
+-- A refused draw is its code and the seed that came in.
+pub left-alone : (s : List ℕ) (seed : ℕ) (p : Profile) → drawOn s seed p .code ≢ 0 → drawOn s seed p ≡ refusedOf (drawOn s seed p .code) seed
 unfolding drawOn
-seed-stays s seed p = go (isImage s)
+left-alone s seed p = go (isImage s)
   where
-    go : (b : Bool) → cond b (drawnOf (kernelOf s) seed p) (refusedOf 1 seed) .code ≢ 0 → cond b (drawnOf (kernelOf s) seed p) (refusedOf 1 seed) .seed ≡ seed
-    go true n = ap (λ (d : Drawn). d .seed) (refused-leaves (kernelOf s) seed p n)
+    go : (b : Bool) → let d = cond b (drawnOf (kernelOf s) seed p) (refusedOf 1 seed) in d .code ≢ 0 → d ≡ refusedOf (d .code) seed
+    go true n = refused-leaves (kernelOf s) seed p n
     go false n = refl
 
 -- What the call answers, and the seed and the value that it leaves.
@@ -155,7 +155,7 @@ module _ (s : List ℕ) (seed span : ℕ) (weights : List ℕ) (value : ℕ) {r 
   unfolding drawSeed drawValue
   refused-draw n = (
     packed-so,
-    sym (seed-stays s seed (toldProfile span weights) (λ e. n (code-so ∙ e))),
+    sym (ap (λ (x : Drawn). x .seed) (left-alone s seed (toldProfile span weights) (λ e. n (code-so ∙ e)))),
     rw (ne-eqb (found .code) 0 (λ e. n (code-so ∙ e))),
   )
 
