@@ -32,7 +32,7 @@ use Rattle.generator.specs.Draw.{good-profile, drawn}
 use Rattle.generator.specs.Public.{profileOf, toldDrawn, refusedOf, drawnIn, drawnOf}
 use Rattle.generator.proofs.Theorems.{drawn-is-fine}
 use Rattle.generator.proofs.Shipped.{code-in-order, drawn-accepted, draws-39}
-use Rattle.image.specs.Layout.{imageOf, kernelOf, clean, isImage}
+use Rattle.image.specs.Layout.{imageOf, kernelOf, clean, formed, isImage}
 use Rattle.image.specs.Calls.{told, packed, packedLeft, stepAnswer, stepImage, freshAnswer, freshImage, leftAnswer, toldProfile, drawOn, packedDrawn, drawAnswer, drawSeed, drawValue}
 use Rattle.image.proofs.Exits.{left-alone}
 use Rattle.image.proofs.RoundTrip.{Bytes, image-size, image-back, bytes-are}
@@ -60,7 +60,7 @@ clock-small k e = stands k e .machine .clock-fits
 -- Rules out: two fields in one place, a field left out or cut, another byte order in reading than in writing, an image of another length.
 -- Leaves: bytes that no state writes, and that are taken all the same (one-image).
 pub reads-back : (k : Kernel) → isSound k ≡ true → (isImage (imageOf k) ≡ true) × (kernelOf (imageOf k) ≡ k)
-unfolding isImage
+unfolding isImage formed
 reads-back k e =
     let z = stands k e .neat in
     let w = image-back k z (clock-small k e) (until-small k e) in
@@ -69,9 +69,9 @@ reads-back k e =
 -- ## One image for each state: bytes that are an image are the image of the state that they hold
 -- So two images of one state are the same bytes. Rules out: a spare byte that is not looked at, a started byte of 2, a 513th byte.
 pub one-image : (s : List ℕ) → Bytes s → isImage s ≡ true → imageOf (kernelOf s) ≡ s
-unfolding isImage
+unfolding isImage formed
 one-image s small e =
-    let w = and-true (eqb (length s) 512 && clean s) (isSound (kernelOf s)) e in
+    let w = and-true (formed s) (isSound (kernelOf s)) e in
     let v = and-true (eqb (length s) 512) (clean s) (w .0) in
     bytes-are s (eqb-true (length s) 512 (v .0)) small (v .1)
 
@@ -108,7 +108,7 @@ steps-machine m c e =
 -- what an image says of its state
 image-sound : (s : List ℕ) → isImage s ≡ true → isSound (kernelOf s) ≡ true
 unfolding isImage
-image-sound s e = and-true (eqb (length s) 512 && clean s) (isSound (kernelOf s)) e .1
+image-sound s e = and-true (formed s) (isSound (kernelOf s)) e .1
 
 -- ## An image stays an image, and so over any calls
 pub stays-image : (s : List ℕ) (c : Command) → isImage s ≡ true → isImage (stepImage s c) ≡ true

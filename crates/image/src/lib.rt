@@ -80,10 +80,7 @@ fn pack_left(l: Left) -> u32
 pub extern "C" fn rvn_step(image: &mut [u8], op: u64, a: u64, b: u64, value: u64) -> u32
     ensures { λ r. ⌜ (r ≡ stepAnswer (now (image .entry)) (told op a b value)) × (now (image .exit) ≡ stepImage (now (image .entry)) (told op a b value)) ⌝ }
 {
-    if image.len() != 512 {
-        return 1;
-    }
-    if !codec::is_clean(image) {
+    if !codec::is_formed(image) {
         return 1;
     }
     let k = codec::decode(image);
@@ -115,10 +112,7 @@ pub extern "C" fn rvn_fresh(image: &mut [u8]) -> u32
 pub extern "C" fn rvn_wakes_left(image: &[u8], t: u64) -> u32
     ensures { λ r. ⌜ r ≡ leftAnswer (now (image .entry)) t ⌝ }
 {
-    if image.len() != 512 {
-        return 1;
-    }
-    if !codec::is_clean(image) {
+    if !codec::is_formed(image) {
         return 1;
     }
     let k = codec::decode(image);
@@ -175,10 +169,7 @@ fn no_image(seed: u32) -> Drawn
 fn draw_on(image: &[u8], seed: u32, p: Profile) -> Drawn
     ensures { λ r. ⌜ r ≡ drawOn (now (image .entry)) seed p ⌝ }
 {
-    if image.len() != 512 {
-        return no_image(seed);
-    }
-    if !codec::is_clean(image) {
+    if !codec::is_formed(image) {
         return no_image(seed);
     }
     generator::draw(codec::decode(image), seed, p)
