@@ -5,7 +5,8 @@
  * between calls, nothing is allocated, and no function is called back: all of the machine is in its image, which may be copied, compared,
  * stored and stepped again. Two images are the same machine exactly if their bytes are the same. docs/IMAGE.md has the layout.
  *
- * A pointer may be null only where its length is 0. Two calls on one image at a time are the host's to prevent.
+ * A pointer may be null only where its length is 0; a seed and a value are one number each, and theirs never is. Two calls on one image at a
+ * time are the host's to prevent.
  */
 #ifndef RVN_IMAGE_H
 #define RVN_IMAGE_H

@@ -231,3 +231,22 @@ draws-39-there =
     let k = encode (run fresh set-up) in
     let q = draws-state k 1 (toldProfile 100 (10 ∷ 10 ∷ 10 ∷ 10 ∷ 10 ∷ 10 ∷ 10 ∷ 10 ∷ [])) (encode-sound (run fresh set-up) (run-sound set-up fresh fresh-sound)) ∙ draws-39 in
     (ap packedDrawn q, ap (λ (d : Drawn). d .seed) q, ap (λ (d : Drawn). cond (eqb (d .code) 0) (d .command .value) 0) q)
+
+-- ## No second answer
+-- What a call's contract says of its answer and of what it was lent, only one value meets.
+one : {A : Type 0} {d r q : A} → r ≡ d → q ≡ d → r ≡ q
+one e f = e ∙ sym f
+
+pub step-single : (s : List ℕ) (c : Command) (r q : ℕ) (t u : List ℕ) → (r ≡ stepAnswer s c) × (t ≡ stepImage s c) → (q ≡ stepAnswer s c) × (u ≡ stepImage s c) → (r ≡ q) × (t ≡ u)
+step-single s c r q t u e f = (one (e .0) (f .0), one (e .1) (f .1))
+
+pub fresh-single : (s : List ℕ) (r q : ℕ) (t u : List ℕ) → (r ≡ freshAnswer s) × (t ≡ freshImage s) → (q ≡ freshAnswer s) × (u ≡ freshImage s) → (r ≡ q) × (t ≡ u)
+fresh-single s r q t u e f = (one (e .0) (f .0), one (e .1) (f .1))
+
+pub left-single : (s : List ℕ) (t r q : ℕ) → r ≡ leftAnswer s t → q ≡ leftAnswer s t → r ≡ q
+left-single s t r q = one
+
+pub draw-single : (s : List ℕ) (seed span : ℕ) (w : List ℕ) (value r q x y v u : ℕ)
+    → (r ≡ drawAnswer s seed span w) × (x ≡ drawSeed s seed span w) × (v ≡ drawValue s seed span w value)
+    → (q ≡ drawAnswer s seed span w) × (y ≡ drawSeed s seed span w) × (u ≡ drawValue s seed span w value) → (r ≡ q) × (x ≡ y) × (v ≡ u)
+draw-single s seed span w value r q x y v u e f = (one (e .0) (f .0), one (e .1) (f .1), one (e .2) (f .2))

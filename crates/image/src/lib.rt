@@ -166,6 +166,7 @@ fn no_image(seed: u32) -> Drawn
     }
 }
 
+// The generator's draw over the state that the image holds.
 fn draw_on(image: &[u8], seed: u32, p: Profile) -> Drawn
     ensures { λ r. ⌜ r ≡ drawOn (now (image .entry)) seed p ⌝ }
 {
