@@ -14,7 +14,7 @@ aarch64) cc=${CC:-x86_64-linux-gnu-gcc} nm=${NM:-x86_64-linux-gnu-nm} packages='
 *) fail "no host for a $(uname -m): the library is for x86-64, and runs there or, under the toolchain's emulator, on aarch64" ;;
 esac
 command -v rt >/dev/null || fail "no command rt: it builds the static library. Put the folder bin/ of the Rattle toolchain on PATH"
-for tool in "$cc" "$nm"; do
+for tool in "${cc%% *}" "${nm%% *}"; do
     command -v "$tool" >/dev/null || fail "no command $tool: it is wanted for the C hosts in host/. On Debian: apt-get install $packages. Or set CC and NM"
 done
 if [ "$(uname -m)" = aarch64 ]; then
