@@ -1,10 +1,11 @@
-/* Times the shipped step against the same step in C, on one stream of commands, in one program.
-   bench COMMANDS ROUNDS [c|rattle]: with a third word only that one runs, for a counter of instructions. */
+/* Times the shipped step, by value and on an image, against the same step in C, on one stream of commands, in one program.
+   bench COMMANDS ROUNDS [c|rattle|image]: with a third word only that one runs, for a counter of instructions. */
 #define _POSIX_C_SOURCE 199309L
 #include <stdio.h>
 #include <stdlib.h>
 #include <time.h>
 #include "kernel.h"
+#include "../host/rvn_image.h"
 
 /* crate bench_step; a slice is a pointer and a length */
 uint64_t bench_run(const uint8_t *ops, size_t, const uint8_t *a, size_t, const uint8_t *b, size_t, const uint64_t *values, size_t, uint64_t sum);
@@ -18,6 +19,16 @@ static __attribute__((noinline)) uint64_t c_run(const uint8_t *ops, const uint8_
     memset(&k, 0, sizeof k);
     for (size_t i = 0; i < n; i++) sum = mixed(sum, step(&k, (command){ ops[i], a[i], b[i], values[i] }));
     return sum + k.clock;
+}
+
+/* crate image: the machine is its 512 bytes, read and written at each step */
+static __attribute__((noinline)) uint64_t image_run(const uint8_t *ops, const uint8_t *a, const uint8_t *b, const uint64_t *values, size_t n, uint64_t sum) {
+    uint8_t image[RVN_IMAGE_BYTES];
+    uint64_t clock;
+    rvn_fresh(image, sizeof image);
+    for (size_t i = 0; i < n; i++) sum = mixed(sum, rvn_step(image, sizeof image, ops[i], a[i], b[i], values[i]));
+    memcpy(&clock, image, sizeof clock);
+    return sum + clock;
 }
 
 static uint32_t seed = 1;
@@ -60,21 +71,26 @@ int main(int argc, char **argv) {
         if (!(r & 255)) accepted++, of_op[c.op]++;
         for (int j = 0; j < 32 && k.delayed[j]; j++) lines++;
     }
-    double best_c = 1e300, best_r = 1e300;
-    uint64_t sum_c = 0, sum_r = 0;
+    double best_c = 1e300, best_r = 1e300, best_i = 1e300;
+    uint64_t sum_c = 0, sum_r = 0, sum_i = 0;
     for (size_t j = 0; j < rounds; j++) {
         double t0 = now();
-        if (*only != 'r') sum_c = c_run(ops, a, b, values, n, sum_c);
+        if (!*only || *only == 'c') sum_c = c_run(ops, a, b, values, n, sum_c);
         double t1 = now();
-        if (*only != 'c') sum_r = bench_run(ops, n, a, n, b, n, values, n, sum_r);
+        if (!*only || *only == 'r') sum_r = bench_run(ops, n, a, n, b, n, values, n, sum_r);
         double t2 = now();
+        if (!*only || *only == 'i') sum_i = image_run(ops, a, b, values, n, sum_i);
+        double t3 = now();
         if (t1 - t0 < best_c) best_c = t1 - t0;
         if (t2 - t1 < best_r) best_r = t2 - t1;
+        if (t3 - t2 < best_i) best_i = t3 - t2;
     }
-    if (*only) return printf("%llx\n", (unsigned long long)(*only == 'c' ? sum_c : sum_r)) < 0;
+    if (*only) return printf("%llx\n", (unsigned long long)(sum_c + sum_r + sum_i)) < 0;
     printf("%zu commands, %.1f%% accepted, %.1f tasks delayed on average; by op:", n, 100.0 * accepted / n, (double)lines / n);
     for (int op = 1; op < 12; op++) printf(" %llu", (unsigned long long)of_op[op]);
-    printf("\nanswers %s\n", sum_c == sum_r ? "equal" : "DIFFER");
+    bool equal = sum_c == sum_r && sum_c == sum_i;
+    printf("\nanswers %s\n", equal ? "equal" : "DIFFER");
     printf("C       %7.1f ns a step\nRattle  %7.1f ns a step\nratio   %7.2f\n", best_c / n, best_r / n, best_r / best_c);
-    return sum_c != sum_r;
+    printf("image   %7.1f ns a step\nratio   %7.2f\n", best_i / n, best_i / best_c);
+    return !equal;
 }

@@ -1,7 +1,8 @@
 /*
  * A hostile host: a million calls with images of every length 0..1025, random bytes, single spoilt bytes of good images, states that no
- * command leads to, and operands of every width, at every entry point. Each answer and every byte afterwards are held to judge.h; the bytes
- * stand between guard bytes, at any alignment. The seed is fixed, so that a run that fails once fails again. Prints one line of counts by code.
+ * command leads to, operands of every width, seeds and profiles good and bad, at every entry point. Each answer and every byte afterwards are
+ * held to judge.h; the bytes stand between guard bytes, at any alignment, and what else is lent between guards too. The seed is fixed, so that
+ * a run that fails once fails again. Prints one line of counts by code.
  */
 #include <inttypes.h>
 #include <stdio.h>
@@ -15,7 +16,7 @@
 
 static uint8_t area[GUARD + 8 + LONGEST + GUARD], expected[sizeof area];
 static uint8_t good[512]; /* an image that is stepped all along */
-static unsigned long counts[14], calls;
+static unsigned long counts[19], drawn_ops[12], calls;
 static uint64_t seed = 2647435461u;
 
 static uint64_t draw(void)
@@ -51,21 +52,32 @@ static uint8_t *lend(const uint8_t *bytes, size_t length)
     return image;
 }
 
-static void judge(const char *what, size_t length, uint32_t answer, struct reply want)
+/* The seed, the weights and the value that a draw is lent, each between guards, and what they are to be afterwards. */
+#define MOST_WEIGHTS 17
+static struct lent {
+    uint64_t value[3];
+    uint32_t seed[3], weights[MOST_WEIGHTS + 2];
+} lent, left;
+
+static void judge_packed(const char *what, size_t length, uint32_t answer, uint32_t packed)
 {
-    uint32_t packed = want.code + 256 * want.running + 65536 * want.released;
     if (answer != packed || memcmp(area, expected, sizeof area) != 0) {
         printf("call %lu, %s of %zu bytes: answer %" PRIu32 ", expected %" PRIu32 "%s\n", calls, what, length, answer, packed,
                memcmp(area, expected, sizeof area) ? ", other bytes than expected" : "");
         exit(1);
     }
     calls++;
-    counts[want.code]++;
+    counts[packed & 255]++;
+}
+
+static void judge(const char *what, size_t length, uint32_t answer, struct reply want)
+{
+    judge_packed(what, length, answer, want.code + 256 * want.running + 65536 * want.released);
 }
 
 /* ---- the entry points, each on bytes that are there already */
 
-static void try_step(uint8_t *image, size_t length, uint64_t op, uint64_t a, uint64_t b, uint64_t value)
+static unsigned try_step(uint8_t *image, size_t length, uint64_t op, uint64_t a, uint64_t b, uint64_t value)
 {
     struct machine m;
     struct reply want = {1, 0, 0};
@@ -75,6 +87,7 @@ static void try_step(uint8_t *image, size_t length, uint64_t op, uint64_t a, uin
             write_image(&m, expected + (image - area));
     }
     judge("step", length, rvn_step(image, length, op, a, b, value), want);
+    return want.code;
 }
 
 static void try_fresh(uint8_t *image, size_t length)
@@ -95,6 +108,28 @@ static void try_left(uint8_t *image, size_t length, uint64_t task)
     if (read_image(&m, image, length))
         want = wakes_left(&m, task);
     judge("wakes left", length, rvn_wakes_left(image, length, task), want);
+}
+
+/* The seed and the weights are in `lent` already. */
+static struct draft try_draw(uint8_t *image, size_t length, uint64_t span, size_t count)
+{
+    struct machine m;
+    struct draft want = {1, 0, 0, 0, 0, lent.seed[1]};
+    memcpy(&left, &lent, sizeof left);
+    if (read_image(&m, image, length))
+        want = drawn(&m, lent.seed[1], span, lent.weights + 1, count);
+    if (want.code == 0) {
+        left.value[1] = want.value;
+        drawn_ops[want.op]++;
+    }
+    left.seed[1] = want.seed;
+    judge_packed("draw", length, rvn_draw(image, length, &lent.seed[1], span, lent.weights + 1, count, &lent.value[1]),
+                 (uint32_t)(want.code + 256 * want.op + 65536 * want.a + 16777216 * want.b));
+    if (memcmp(&lent, &left, sizeof left) != 0) {
+        printf("call %lu, draw of %zu bytes: another seed, weights or value than expected\n", calls, length);
+        exit(1);
+    }
+    return want;
 }
 
 /* ---- numbers */
@@ -141,13 +176,44 @@ static void step_somehow(uint8_t *image, size_t length)
     try_step(image, length, op, a, b, value);
 }
 
+/* Mostly a good seed and a good profile, and guards that are anything. */
+static struct draft draw_somehow(uint8_t *image, size_t length)
+{
+    uint64_t span = one_in(40) ? 1000001 + below(2) : one_in(40) ? 0 : one_in(20) ? 1000000 : one_in(60) ? draw() : 1 + below(100);
+    size_t count = one_in(30) ? below(MOST_WEIGHTS + 1) : RVN_WEIGHTS;
+    for (int i = 0; i < 3; i++) {
+        lent.value[i] = draw();
+        lent.seed[i] = (uint32_t)draw();
+    }
+    for (int i = 0; i < MOST_WEIGHTS + 2; i++)
+        lent.weights[i] = one_in(6) ? 0 : one_in(6) ? 100 : (uint32_t)below(101);
+    lent.weights[2] = one_in(40) ? 0 : 1 + (uint32_t)below(20);
+    if (one_in(40))
+        lent.weights[1 + below(RVN_WEIGHTS)] = one_in(2) ? 101 : (uint32_t)draw();
+    if (one_in(40))
+        lent.seed[1] = 0;
+    return try_draw(image, length, span, count);
+}
+
+/* What is drawn is accepted, as it was drawn. */
+static void draw_and_step(uint8_t *image)
+{
+    struct draft d = draw_somehow(image, 512);
+    if (d.code == 0 && try_step(image, 512, d.op, d.a, d.b, d.value) != 0) {
+        printf("call %lu: a drawn command is refused\n", calls);
+        exit(1);
+    }
+}
+
 static void call_somehow(uint8_t *image, size_t length)
 {
-    uint64_t which = below(10);
+    uint64_t which = below(12);
     if (which == 0)
         try_fresh(image, length);
     else if (which <= 2)
         try_left(image, length, operand(32));
+    else if (which <= 5)
+        draw_somehow(image, length);
     else
         step_somehow(image, length);
 }
@@ -159,7 +225,7 @@ static void forge(uint8_t *image)
     struct machine m;
     memset(&m, 0, sizeof m);
     m.started = 1;
-    m.clock = one_in(3) ? draw() : below(20);
+    m.clock = one_in(3) ? draw() : one_in(6) ? UINT64_MAX - below(120) : below(20);
     m.ready_count = 1;
     m.tasks[0].created = 1;
     for (int o = 1; o < 8; o++)
@@ -205,6 +271,7 @@ int main(void)
             const uint8_t *from = random ? NULL : bytes;
             try_step(lend(from, length), length, RVN_WAKE, 0, 0, 0);
             try_left(lend(from, length), length, 1 + below(31));
+            draw_somehow(lend(from, length), length);
             try_fresh(lend(from, length), length);
         }
     }
@@ -216,10 +283,12 @@ int main(void)
             memcpy(good, bytes, 512);
             good[i] = (uint8_t)value;
             uint8_t *image = lend(good, 512);
-            if (value % 4)
-                step_somehow(image, 512);
-            else
+            if (value % 4 == 0)
                 try_left(image, 512, operand(32));
+            else if (value % 4 == 1)
+                draw_somehow(image, 512);
+            else
+                step_somehow(image, 512);
         }
     /* a machine that is set up, run and now and then spoilt, forged, or made afresh */
     uint8_t *image = lend(bytes, 512);
@@ -241,17 +310,23 @@ int main(void)
             image = lend(good, 512);
             if (one_in(2000))
                 try_fresh(image, 512);
+            else if (one_in(4))
+                draw_and_step(image);
             else
                 step_somehow(image, 512);
             memcpy(good, image, 512);
         }
     }
+    /* text and tape have the codes 14 to 16 */
+    int met = 1;
     printf("%lu calls, by code:", calls);
-    for (unsigned code = 0; code < 14; code++)
-        printf(" %u:%lu", code, counts[code]);
+    for (unsigned code = 0; code < 19; code++)
+        if (code < 14 || code > 16) {
+            printf(" %u:%lu", code, counts[code]);
+            met = met && counts[code] != 0;
+        }
     printf("\n");
-    for (unsigned code = 0; code < 14; code++)
-        if (counts[code] == 0)
-            return 1;
-    return 0;
+    for (unsigned op = 4; op < 12; op++)
+        met = met && drawn_ops[op] != 0;
+    return !met;
 }

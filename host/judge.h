@@ -1,5 +1,5 @@
 /*
- * A second reading of the image and of document 01's step, written from the paper and docs/IMAGE.md alone, for hostile.c to hold the library
+ * A second reading of the image and of document 01's step and draw, written from the paper and docs/IMAGE.md alone, for hostile.c to hold the library
  * to. It shares no code, no table and no representation with the library: a machine here is tasks that say where they stand, and two lines.
  */
 #ifndef JUDGE_H
@@ -323,6 +323,78 @@ static struct reply wakes_left(const struct machine *m, uint64_t task)
         for (int i = 0; i < m->delayed_count; i++)
             if (m->delayed[i] == (int)task && m->tasks[task].until <= m->clock)
                 r.running = (unsigned)i + 1;
+    return r;
+}
+
+/* ---- the draw */
+
+struct draft {
+    unsigned code;
+    uint64_t op, a, b, value;
+    uint32_t seed; /* the one left behind */
+};
+
+static uint32_t advanced(uint32_t x)
+{
+    x ^= x << 13;
+    x ^= x >> 17;
+    return x ^ x << 5;
+}
+
+static int held_by_any(const struct machine *m, int o)
+{
+    for (int t = 1; t < 32; t++)
+        if (m->tasks[t].holds == o)
+            return 1;
+    return 0;
+}
+
+static int good_profile(uint64_t span, const uint32_t *weights, size_t count)
+{
+    if (count != 8 || !ranged(span, 1, 1000000) || weights[1] == 0)
+        return 0;
+    for (int i = 0; i < 8; i++)
+        if (weights[i] > 100)
+            return 0;
+    return 1;
+}
+
+/* A draw over a sound machine, as a lottery: each legal kind has as many tickets as it weighs, in op order, and the first draw takes one. */
+static struct draft drawn(const struct machine *m, uint32_t seed, uint64_t span, const uint32_t *weights, size_t count)
+{
+    struct draft r = {0, 0, 0, 0, 0, seed};
+    r.code = seed == 0 ? 17 : !good_profile(span, weights, count) ? 18 : !m->started ? 2 : 0;
+    if (r.code)
+        return r;
+    uint32_t d1 = advanced(seed), d2 = advanced(d1), d3 = advanced(d2);
+    const struct task *k = &m->tasks[m->ready[0]];
+    int idle = m->ready[0] == 0, free_hands = !idle && k->holds == 0, fits = span <= UINT64_MAX - m->clock;
+    int eligible[8], objects = 0;
+    for (int o = 1; o < 8; o++)
+        if (m->ceiling[o] != 0 && m->ceiling[o] >= k->base && !held_by_any(m, o))
+            eligible[objects++] = o;
+    int legal[12] = {0}, tickets[800], sold = 0;
+    legal[4] = free_hands && fits;
+    legal[5] = 1;
+    legal[6] = fits;
+    legal[7] = legal[10] = free_hands && objects > 0;
+    legal[8] = legal[9] = k->holds != 0 && k->way == 1;
+    legal[11] = k->holds != 0 && k->way == 2;
+    for (int op = 4; op <= 11; op++)
+        for (uint32_t i = 0; legal[op] && i < weights[op - 4]; i++)
+            tickets[sold++] = op;
+    r.op = (uint64_t)tickets[d1 % (uint32_t)sold];
+    r.seed = d3;
+    if (r.op == 4)
+        r.value = m->clock + d2 % (span + 1);
+    if (r.op == 6)
+        r.value = 1 + d2 % span;
+    if (r.op == 7 || r.op == 10)
+        r.a = (uint64_t)eligible[d2 % (uint32_t)objects];
+    if (r.op == 8 || r.op == 9 || r.op == 11)
+        r.a = (uint64_t)k->holds;
+    if (r.op == 8 || r.op == 10)
+        r.b = r.op == 10 && m->waiter[r.a] ? 1 : d3 % 2;
     return r;
 }
 

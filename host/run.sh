@@ -1,40 +1,51 @@
 #!/bin/sh
-# Builds the static library, holds what it exports to the header, compiles the example host and the hostile host for x86-64, and runs both
-# against their stored outputs. Wants the toolchain, and of Debian: gcc and binutils on x86-64; on Arm gcc-x86-64-linux-gnu and
-# libc6-dev-amd64-cross, and the programs run under the toolchain's emulator.
+# Builds the static library, holds what it exports to the header, compiles the example hosts and the hostile host for x86-64, and runs them:
+# walk and draw against what the programs of these names print, the hostile host against its stored line. Wants the toolchain, and of Debian
+# gcc, libc6-dev and binutils on x86-64; on Arm gcc-x86-64-linux-gnu and libc6-dev-amd64-cross, and the hosts run under the toolchain's emulator.
 set -eu
 here=$(cd "$(dirname "$0")" && pwd)
 root=$(cd "$here/.." && pwd)
 out=$root/target/host
 lib=$root/target/staticlib/libimage.a
-mkdir -p "$out"
+fail() { echo "host/run.sh: $*" >&2; exit 2; }
 case $(uname -m) in
-x86_64) cc=${CC:-gcc} nm=${NM:-nm} run= ;;
-aarch64)
-    cc=${CC:-x86_64-linux-gnu-gcc} nm=${NM:-x86_64-linux-gnu-nm}
-    kit=$(cd "$(dirname "$(readlink -f "$(command -v rt)")")/.." && pwd)
-    run=$kit/on/aarch64/toolchain/bin/qemu-x86_64
-    ;;
-*) echo "no host for $(uname -m)" >&2; exit 2 ;;
+x86_64) cc=${CC:-gcc} nm=${NM:-nm} run='' packages='gcc libc6-dev binutils' ;;
+aarch64) cc=${CC:-x86_64-linux-gnu-gcc} nm=${NM:-x86_64-linux-gnu-nm} packages='gcc-x86-64-linux-gnu libc6-dev-amd64-cross binutils-x86-64-linux-gnu' ;;
+*) fail "no host for a $(uname -m): the library is for x86-64, and runs there or, under the toolchain's emulator, on aarch64" ;;
 esac
+command -v rt >/dev/null || fail "no command rt: it builds the static library. Put the folder bin/ of the Rattle toolchain on PATH"
+for tool in "${cc%% *}" "${nm%% *}"; do
+    command -v "$tool" >/dev/null || fail "no command $tool: it is wanted for the C hosts in host/. On Debian: apt-get install $packages. Or set CC and NM"
+done
+if [ "$(uname -m)" = aarch64 ]; then
+    run=${RATTLE_HOME:-$(cd "$(dirname "$(readlink -f "$(command -v rt)")")/.." && pwd)}/on/aarch64/toolchain/bin/qemu-x86_64
+    [ -x "$run" ] || fail "no emulator at $run: set RATTLE_HOME to the toolchain's folder"
+fi
+mkdir -p "$out"
 if ! (cd "$root" && rt staticlib image) >"$out/staticlib.log" 2>&1; then
     tail "$out/staticlib.log" >&2
-    exit 1
+    fail "rt staticlib image failed; the whole of what it said is in target/host/staticlib.log"
 fi
 
 # The functions of the header are exported, and no other symbol is; and nothing is wanted of C but memory copies.
 sed -n 's/^uint32_t \(rvn_[a-z_]*\)(.*/\1/p' "$here/rvn_image.h" | sort >"$out/declared"
 $nm -g --defined-only "$lib" | awk 'NF == 3 { print $3 }' | sort >"$out/exported"
-diff "$out/declared" "$out/exported"
-$nm -u "$lib" | awk 'NF == 2 { print $2 }' | sort -u | grep -vx 'memcpy\|memmove\|memset\|memcmp' >"$out/wanted" && { cat "$out/wanted" >&2; exit 1; }
+diff "$out/declared" "$out/exported" >&2 || fail "the library exports other functions (>) than host/rvn_image.h declares (<)"
+$nm -u "$lib" | awk 'NF == 2 { print $2 }' | sort -u | grep -vx 'memcpy\|memmove\|memset\|memcmp' >"$out/wanted" &&
+    fail "the library wants more of C than memory copies: $(tr '\n' ' ' <"$out/wanted")"
 
-# -static: no loader and no system root is wanted, so the emulator runs the program as it is. The header is also C++, where there is a compiler.
-for program in walk hostile; do
-    $cc -std=c99 -Wall -Wextra -Wpedantic -Werror -O2 -static -I"$here" -o "$out/$program" "$here/$program.c" "$lib"
-    $run "$out/$program" >"$out/$program.stdout" || { cat "$out/$program.stdout" >&2; exit 1; }
-    diff "$here/$program.stdout" "$out/$program.stdout"
+# -static: no loader and no system root is wanted, so the emulator runs a host as it is.
+for host in walk draw hostile; do
+    $cc -std=c99 -Wall -Wextra -Wpedantic -Werror -O2 -static -I"$here" -o "$out/$host" "$here/$host.c" "$lib" ||
+        fail "$cc does not build host/$host.c. On Debian it wants: $packages"
+    $run "$out/$host" >"$out/$host.stdout" || { cat "$out/$host.stdout" >&2; fail "host/$host.c failed, as it says above"; }
 done
+for host in walk draw; do
+    diff "$root/crates/$host/stdout" "$out/$host.stdout" >&2 || fail "host/$host.c prints other lines (>) than program $host (<)"
+done
+diff "$here/hostile.stdout" "$out/hostile.stdout" >&2 || fail "the hostile host counts otherwise (>) than host/hostile.stdout (<): see why, and store the new line"
+# The header is also C++, where there is a compiler.
 if echo 'int main(){}' | $cc -x c++ -fsyntax-only - 2>/dev/null; then
     echo '#include "rvn_image.h"' | $cc -x c++ -std=c++98 -Wall -Wextra -Werror -Wno-long-long -fsyntax-only -I"$here" -
 fi
-echo "host: the walk is document 01's; $(cat "$out/hostile.stdout"); exported: $(tr '\n' ' ' <"$out/exported")"
+echo "host: walk and draw on an image print what the programs print; $(cat "$out/hostile.stdout"); exported: $(tr '\n' ' ' <"$out/exported")"

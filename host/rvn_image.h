@@ -5,7 +5,8 @@
  * between calls, nothing is allocated, and no function is called back: all of the machine is in its image, which may be copied, compared,
  * stored and stepped again. Two images are the same machine exactly if their bytes are the same. docs/IMAGE.md has the layout.
  *
- * A pointer may be null only where its length is 0. Two calls on one image at a time are the host's to prevent.
+ * A pointer may be null only where its length is 0; a seed and a value are one number each, and theirs never is. Two calls on one image at a
+ * time are the host's to prevent.
  */
 #ifndef RVN_IMAGE_H
 #define RVN_IMAGE_H
@@ -19,6 +20,9 @@ extern "C" {
 
 /* The length of an image. */
 #define RVN_IMAGE_BYTES 512
+
+/* The count of a draw's weights. */
+#define RVN_WEIGHTS 8
 
 /* Tasks are 0..31: 0 is idle, always there. Objects are 1..7. Bases and ceilings are 1..15. */
 #define RVN_IDLE 0
@@ -39,10 +43,11 @@ extern "C" {
 #define RVN_ENTRY 10   /* a = object, b = barrier: 1, the runner holds it, for an entry; 0, the runner waits on it */
 #define RVN_DONE 11    /* a = object: ends an entry */
 
-/* Codes: 0, or the number of the refusal. Of several that hold, the answer is the first in the order 1, 4, 2 or 3, then 5 to 13. */
+/* Codes: 0, or the number of the refusal. Of several that hold, the answer is the first in the order 1, 4, 2 or 3, then 5 to 13; of a
+ * draw in the order 1, 17, 18, 2. */
 #define RVN_ACCEPTED 0
 #define RVN_SHAPE 1    /* the image is not 512 bytes, or holds no sound state: running and released are 0 */
-#define RVN_EARLY 2    /* ops 4..11 before start */
+#define RVN_EARLY 2    /* ops 4..11 or a draw before start */
 #define RVN_LATE 3     /* ops 1..3 after start */
 #define RVN_RANGE 4    /* an unknown op, an operand out of its range, an unused operand that is not 0 */
 #define RVN_TAKEN 5    /* the task or object is set up already */
@@ -54,27 +59,66 @@ extern "C" {
 #define RVN_HELD 11    /* another task holds the object */
 #define RVN_QUEUE 12   /* an entry with barrier 0 while a task waits there */
 #define RVN_CLOCK 13   /* an advance past 2^64-1 */
+#define RVN_SEED 17    /* a draw from seed 0 */
+#define RVN_PROFILE 18 /* of a draw: not eight weights, a weight above 100, wake's weight 0, or a span not 1..1000000 */
 
 /*
  * Steps the machine of an image. The answer is code + 256 * running + 65536 * released: RVN_CODE, RVN_RUNNING and RVN_RELEASED take it
- * apart. An accepted command leaves the image of the machine after the step; any other leaves every byte as it was. op, a and b are as wide
- * as C's numbers go, so that nothing is cut on the way: 260 is refused with 4, and so is -1.
+ * apart. op, a and b are as wide as C's numbers go, so that nothing is cut on the way: 260 is refused with 4, and so is -1.
+ *
+ *   image    an accepted command leaves the image of the machine after the step; any other leaves every byte as it was
+ *   length   of the image in bytes: 512, any other is refused with 1
+ *   op       1..11, see above
+ *   a, b     the op's operands: a task, object, priority, ceiling or barrier; 0 where it has none
+ *   value    the time of a delay, the ticks of an advance, else 0
  */
 uint32_t rvn_step(uint8_t *image, size_t length, uint64_t op, uint64_t a, uint64_t b, uint64_t value);
 
-/* Writes the fresh machine into an image, whose old contents do not matter: task 0 alone, no object, clock 0, not started. The answer is 0,
- * or 1 for a wrong length, which changes no byte. */
+/*
+ * Writes the fresh machine into an image: task 0 alone, no object, clock 0, not started. The answer is 0, or 1 for a wrong length.
+ *
+ *   image    its old contents do not matter; with answer 1 they stay
+ *   length   of the image in bytes: 512
+ */
 uint32_t rvn_fresh(uint8_t *image, size_t length);
 
-/* How many more Wakes release the task: one more than the count of entries ahead of it in the delay line if it is delayed and due, otherwise
- * 0. The answer is code + 256 * count, with the codes 0, 1, 4 (a task not 1..31) and 6: RVN_CODE and RVN_COUNT take it apart. It only reads. */
+/*
+ * How many more Wakes release a task: one more than the count of entries ahead of it in the delay line if it is delayed and due, otherwise
+ * 0. The answer is code + 256 * count, with the codes 0, 1, 4 (a task not 1..31) and 6: RVN_CODE and RVN_COUNT take it apart.
+ *
+ *   image    only read
+ *   length   of the image in bytes: 512, any other is refused with 1
+ *   task     1..31
+ */
 uint32_t rvn_wakes_left(const uint8_t *image, size_t length, uint64_t task);
+
+/*
+ * Draws a command for the machine of an image, by the seed and the weights: one that rvn_step accepts on the same image. The answer is
+ * code + 256 * op + 65536 * a + 16777216 * b: RVN_CODE, RVN_OP, RVN_A and RVN_B take it apart, and with *value they are the operands of
+ * rvn_step. A refusal, 1, 17, 18 or 2, answers its code alone, and leaves *seed and *value. The same seed on the same image draws the same
+ * command again.
+ *
+ *   image    only read
+ *   length   of the image in bytes: 512, any other is refused with 1
+ *   seed     1..4294967295; advanced where it stands, by three draws for each command, and never to 0
+ *   span     1..1000000: a delay is drawn at most that far ahead of the clock, an advance at most so long
+ *   weights  of the ops 4..11 in their order, each 0..100, weights[1], wake's, not 0. A legal op is drawn the oftener the more it weighs, and
+ *            never where it weighs 0. Only read
+ *   count    of the weights: 8, any other is refused with 18
+ *   value    where the drawn command's value is stored: a time, ticks, or 0
+ *
+ * The bytes of image, *seed, weights and *value may not overlap.
+ */
+uint32_t rvn_draw(const uint8_t *image, size_t length, uint32_t *seed, uint64_t span, const uint32_t *weights, size_t count, uint64_t *value);
 
 /* The parts of an answer. */
 #define RVN_CODE(answer) ((answer) & 255u)
 #define RVN_RUNNING(answer) (((answer) >> 8) & 255u)   /* the running task after the step, 0 before start */
 #define RVN_RELEASED(answer) (((answer) >> 16) & 255u) /* the released task, 0 for nobody */
 #define RVN_COUNT(answer) (((answer) >> 8) & 255u)     /* of rvn_wakes_left */
+#define RVN_OP(answer) (((answer) >> 8) & 255u)        /* of rvn_draw: the op, 0 where it is refused */
+#define RVN_A(answer) (((answer) >> 16) & 255u)        /* of rvn_draw: the first operand */
+#define RVN_B(answer) ((answer) >> 24)                 /* of rvn_draw: the second operand */
 
 #ifdef __cplusplus
 }

@@ -7,6 +7,7 @@ use mathlib.Core.Logic.{_≢_}
 use mathlib.Core.Bool.{Bool, true, false, cond, not, _&&_, true≢false}
 use mathlib.Core.List.{List, [], _∷_}
 use lib.Dec.{eqb, leb}
+use lib.ListN.{length, replicate}
 use borrow.Author.Tests.{ne-eqb, lt-leb, leb-false}
 use Rattle.rules.specs.Line.{within}
 use Rattle.rules.specs.Machine.{Machine, Command, running}
@@ -17,7 +18,12 @@ use Rattle.kernel.specs.declared.Kernel.{Kernel}
 use Rattle.kernel.specs.declared.Left.{Left}
 use Rattle.kernel.specs.declared.Stepped.{Stepped}
 use Rattle.kernel.specs.Public.{stepOf, leftOf}
-use Rattle.image.specs.Calls.{told, fitted, fittedTask}
+use Rattle.generator.specs.declared.Profile.{Profile}
+use Rattle.generator.specs.declared.Drawn.{Drawn}
+use Rattle.generator.specs.Draw.{good-profile, draw-refusal, drawn}
+use Rattle.generator.specs.Public.{profileOf, drawnIn, drawnOf}
+use Rattle.image.specs.Layout.{kernelOf, isImage}
+use Rattle.image.specs.Calls.{told, fitted, fittedTask, toldProfile, fittedProfile, drawOn}
 
 and-false : (b : Bool) → b && false ≡ false
 and-false true = refl
@@ -107,3 +113,30 @@ fitted-left k t = go (leb t 255) refl
 
 pub asked-left : {r : Left} {k : Kernel} {u : ℕ} (j : Kernel) (t : ℕ) → r ≡ leftOf k u → k ≡ j → u ≡ fittedTask t → r ≡ leftOf j t
 asked-left {u = u} j t e p q = e ∙ ap (λ (i : Kernel). leftOf i u) p ∙ ap (λ (v : ℕ). leftOf j v) q ∙ fitted-left j t
+
+-- And so of a draw: profiles that are not good are refused alike, by 18, after 1 and 17.
+module _ (k : Kernel) (seed : ℕ) (p q : Profile) (h : good-profile (profileOf p) ≡ false) (j : good-profile (profileOf q) ≡ false) where
+  not-good : drawnOf k seed p ≡ drawnOf k seed q
+  unfolding drawnOf drawnIn drawn draw-refusal
+  not-good = go (eqb seed 0) refl
+    where
+      go : (b : Bool) → eqb seed 0 ≡ b → drawnOf k seed p ≡ drawnOf k seed q
+      go true e = rw (h, j, e)
+      go false e = rw (h, j, e)
+
+no-profile : Profile
+no-profile = record { span = 0; weights = replicate 8 0 }
+
+fitted-draw : (k : Kernel) (seed span : ℕ) (weights : List ℕ) → drawnOf k seed (fittedProfile span weights) ≡ drawnOf k seed (toldProfile span weights)
+fitted-draw k seed span weights = go (leb span 4294967295) refl (eqb (length weights) 8) refl
+  where
+    go : (a : Bool) → leb span 4294967295 ≡ a → (b : Bool) → eqb (length weights) 8 ≡ b
+        → drawnOf k seed (cond (a && b) (record { span = span; weights = weights }) (record { span = 0; weights = replicate 8 0 })) ≡ drawnOf k seed (record { span = cond b span 0; weights = weights })
+    go true e true f = refl
+    go true e false f = not-good k seed _ _ refl refl
+    go false e true f = not-good k seed _ _ refl (rw (lt-leb span 1000000 (omega (arith, leb-false span 4294967295 e)), and-false))
+    go false e false f = not-good k seed _ _ refl refl
+
+pub asked-draw : {r : Drawn} {p : Profile} (s : List ℕ) (seed span : ℕ) (weights : List ℕ) → r ≡ drawOn s seed p → p ≡ fittedProfile span weights → r ≡ drawOn s seed (toldProfile span weights)
+unfolding drawOn
+asked-draw s seed span weights e q = e ∙ ap (drawOn s seed) q ∙ rw (fitted-draw (kernelOf s) seed span weights)

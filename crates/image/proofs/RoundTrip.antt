@@ -111,6 +111,11 @@ first-eight s h = ext-getD 0 (take 8 s) _ (length-take-le 8 s h) (λ i l. go i (
     go (suc (suc (suc (suc (suc (suc (suc zero))))))) l = getD-take 8 s 7 0 l
     go (suc (suc (suc (suc (suc (suc (suc (suc i)))))))) l = absurd (omega arith)
 
+-- a list of eight, entry by entry
+pub eight-are : (s : List ℕ) → length s ≡ 8
+    → getD s 0 0 ∷ getD s 1 0 ∷ getD s 2 0 ∷ getD s 3 0 ∷ getD s 4 0 ∷ getD s 5 0 ∷ getD s 6 0 ∷ getD s 7 0 ∷ [] ≡ s
+eight-are s l = sym (first-eight s (omega arith)) ∙ take-all 8 s (le-of-eq l)
+
 -- bytes
 abbrev pub Bytes : List ℕ → Type 0
 Bytes s = (j : ℕ) → getD s j 0 < 256

@@ -4,27 +4,37 @@ use Prim.Native.Nat.{ℕ, zero, suc, _+_, _*_, _/_, _%_, _<_, _^_}
 use native.Mathlib.Omega.{arith}
 use mathlib.Core.Path.{_≡_, refl, sym, ap, _∙_, subst}
 use mathlib.Core.Logic.{_≢_, ⊎-elim}
-use mathlib.Core.Bool.{Bool, true, false, cond, _&&_, true≢false}
+use mathlib.Core.Bool.{Bool, true, false, cond, not, _&&_, true≢false}
 use mathlib.Core.List.{List, [], _∷_}
 use lib.ListN.{length, replicate}
 use lib.Dec.{eqb}
 use borrow.Author.Tests.{eq-eqb, ne-eqb, eqb-true}
 use Rattle.rules.specs.Machine.{Machine, Command, fresh}
 use Rattle.rules.specs.Sound.{sound}
-use Rattle.rules.specs.Run.{next, answer}
+use Rattle.rules.specs.Refusals.{first-number}
+use Rattle.rules.specs.Run.{next, answer, run}
 use Rattle.rules.specs.Run as rules
 use Rattle.rules.proofs.Words.{All}
 use Rattle.rules.proofs.Lists.{all-set, eq-or-ne}
 use Rattle.rules.proofs.Tests.{and-true}
 use Rattle.rules.proofs.Sounds.{tests-sound}
-use Rattle.rules.proofs.Step.{fresh-sound}
+use Rattle.rules.proofs.Step.{fresh-sound, run-sound}
+use Rattle.rules.proofs.Walk.{set-up}
 use Rattle.kernel.specs.declared.Kernel.{Kernel}
 use Rattle.kernel.specs.declared.command.Answer.{Answer}
 use Rattle.kernel.specs.View.{view, encode, times}
 use Rattle.kernel.specs.Public.{isSound, stepOf, leftOf}
+use Rattle.kernel.proofs.Round.{view-encode}
 use Rattle.kernel.proofs.Written.{Stands, stands, encode-sound, step-on, step-sound, refused-keeps}
-use Rattle.image.specs.Layout.{imageOf, kernelOf, clean, isImage}
-use Rattle.image.specs.Calls.{packed, packedLeft, stepAnswer, stepImage, freshAnswer, freshImage, leftAnswer}
+use Rattle.generator.specs.declared.Profile.{Profile}
+use Rattle.generator.specs.declared.Drawn.{Drawn}
+use Rattle.generator.specs.Draw.{good-profile, drawn}
+use Rattle.generator.specs.Public.{profileOf, toldDrawn, refusedOf, drawnIn, drawnOf}
+use Rattle.generator.proofs.Theorems.{drawn-is-fine}
+use Rattle.generator.proofs.Shipped.{code-in-order, drawn-accepted, draws-39}
+use Rattle.image.specs.Layout.{imageOf, kernelOf, clean, formed, isImage}
+use Rattle.image.specs.Calls.{told, packed, packedLeft, stepAnswer, stepImage, freshAnswer, freshImage, leftAnswer, toldProfile, drawOn, packedDrawn, drawAnswer, drawSeed, drawValue}
+use Rattle.image.proofs.Exits.{left-alone}
 use Rattle.image.proofs.RoundTrip.{Bytes, image-size, image-back, bytes-are}
 
 -- A sound state's times are numbers of 64 bits.
@@ -50,7 +60,7 @@ clock-small k e = stands k e .machine .clock-fits
 -- Rules out: two fields in one place, a field left out or cut, another byte order in reading than in writing, an image of another length.
 -- Leaves: bytes that no state writes, and that are taken all the same (one-image).
 pub reads-back : (k : Kernel) → isSound k ≡ true → (isImage (imageOf k) ≡ true) × (kernelOf (imageOf k) ≡ k)
-unfolding isImage
+unfolding isImage formed
 reads-back k e =
     let z = stands k e .neat in
     let w = image-back k z (clock-small k e) (until-small k e) in
@@ -59,9 +69,9 @@ reads-back k e =
 -- ## One image for each state: bytes that are an image are the image of the state that they hold
 -- So two images of one state are the same bytes. Rules out: a spare byte that is not looked at, a started byte of 2, a 513th byte.
 pub one-image : (s : List ℕ) → Bytes s → isImage s ≡ true → imageOf (kernelOf s) ≡ s
-unfolding isImage
+unfolding isImage formed
 one-image s small e =
-    let w = and-true (eqb (length s) 512 && clean s) (isSound (kernelOf s)) e in
+    let w = and-true (formed s) (isSound (kernelOf s)) e in
     let v = and-true (eqb (length s) 512) (clean s) (w .0) in
     bytes-are s (eqb-true (length s) 512 (v .0)) small (v .1)
 
@@ -98,7 +108,7 @@ steps-machine m c e =
 -- what an image says of its state
 image-sound : (s : List ℕ) → isImage s ≡ true → isSound (kernelOf s) ≡ true
 unfolding isImage
-image-sound s e = and-true (eqb (length s) 512 && clean s) (isSound (kernelOf s)) e .1
+image-sound s e = and-true (formed s) (isSound (kernelOf s)) e .1
 
 -- ## An image stays an image, and so over any calls
 pub stays-image : (s : List ℕ) (c : Command) → isImage s ≡ true → isImage (stepImage s c) ≡ true
@@ -124,3 +134,119 @@ fresh-reads s l =
 pub unpacked : (a : Answer) → a .code < 256 → a .running .0 < 256
     → (packed a % 256 ≡ a .code) × (packed a / 256 % 256 ≡ a .running .0) × (packed a / 65536 ≡ a .released .0)
 unpacked a c r = (omega arith, omega arith, omega arith)
+
+-- ## Drawing over an image is drawing over its state, and so over document 01's machine
+-- Rules out: a draw that looks at another state, a profile that is cut or turned round. Leaves: what a draw is (crates/generator).
+pub draws-state : (k : Kernel) (seed : ℕ) (p : Profile) → isSound k ≡ true → drawOn (imageOf k) seed p ≡ drawnOf k seed p
+unfolding drawOn
+draws-state k seed p e = let w = reads-back k e in rw (w .0, w .1)
+
+pub draws-machine : (m : Machine) (seed : ℕ) (p : Profile) → sound m ≡ true → drawOn (imageOf (encode m)) seed p ≡ toldDrawn (drawn m seed (profileOf p))
+unfolding drawnOf drawnIn
+draws-machine m seed p e =
+    let s = tests-sound m .sure e in
+    draws-state (encode m) seed p (encode-sound m s) ∙ rw (encode-sound m s, view-encode m s)
+
+-- an accepted draw is over an image, and is the generator's
+of-image : (s : List ℕ) (seed : ℕ) (p : Profile) → drawOn s seed p .code ≡ 0 → (isImage s ≡ true) × (drawOn s seed p ≡ drawnOf (kernelOf s) seed p)
+unfolding drawOn
+of-image s seed p = go (isImage s) refl
+  where
+    go : (b : Bool) → isImage s ≡ b → cond b (drawnOf (kernelOf s) seed p) (refusedOf 1 seed) .code ≡ 0
+        → (isImage s ≡ true) × (cond b (drawnOf (kernelOf s) seed p) (refusedOf 1 seed) ≡ drawnOf (kernelOf s) seed p)
+    go true q e = (q, refl)
+    go false q e = let z : _≡_ {A = ℕ} 1 0 = e in absurd (omega arith)
+
+-- what is drawn has an op and an object that fit a byte
+drawn-small : (k : Kernel) (seed : ℕ) (p : Profile) → isSound k ≡ true → drawnOf k seed p .code ≡ 0 → (drawnOf k seed p .command .op < 256) × (drawnOf k seed p .command .a < 256)
+unfolding drawnOf drawnIn
+drawn-small k seed p s =
+    rw s (λ e. let f = drawn-is-fine (view k) seed (profileOf p) (tests-sound (view k) .found (stands k s .machine)) e in (omega (arith, f .op .1), omega (arith, f .fits .0)))
+
+-- codes are bytes
+code-small : (s : List ℕ) (seed : ℕ) (p : Profile) → drawOn s seed p .code < 256
+unfolding drawOn
+code-small s seed p = go (isImage s)
+  where
+    first : (a b c d : Bool) → first-number ((a, 1) ∷ (b, 17) ∷ (c, 18) ∷ (d, 2) ∷ []) < 256
+    first true b c d = omega arith
+    first false true c d = omega arith
+    first false false true d = omega arith
+    first false false false true = omega arith
+    first false false false false = omega arith
+
+    go : (b : Bool) → cond b (drawnOf (kernelOf s) seed p) (refusedOf 1 seed) .code < 256
+    go true =
+        let k = kernelOf s in
+        rw (code-in-order k seed p) (first (not (isSound k)) (eqb seed 0) (not (good-profile (profileOf p))) (not (k .started)))
+    go false = omega arith
+
+-- The answer unpacked, of operands that are bytes.
+pub unpacked-draw : (d : Drawn) → d .code < 256 → d .command .op < 256 → d .command .a < 256
+    → (packedDrawn d % 256 ≡ d .code) × (packedDrawn d / 256 % 256 ≡ d .command .op) × (packedDrawn d / 65536 % 256 ≡ d .command .a) × (packedDrawn d / 16777216 ≡ d .command .b)
+unpacked-draw d c o a = (omega arith, omega arith, omega arith, omega arith)
+
+-- ## A drawn command is accepted by the step of the same image
+-- Where the draw's code is 0, the step's code is 0 for the op, a and b that its answer holds and the value that it left: whatever the bytes,
+-- the seed, the span and the weights. Rules out: operands packed in each other's place, a value that is not stored or is cut.
+-- Leaves: a draw that always says wake, or that is always refused (crates/generator).
+module _ (s : List ℕ) (seed span : ℕ) (weights : List ℕ) (value : ℕ) where
+  abbrev found : Drawn
+  found = drawOn s seed (toldProfile span weights)
+
+  code-of : drawAnswer s seed span weights % 256 ≡ found .code
+  unfolding drawAnswer
+  code-of = let small = code-small s seed (toldProfile span weights) in omega arith
+
+  pub drawn-steps : drawAnswer s seed span weights % 256 ≡ 0
+      → let r = drawAnswer s seed span weights in stepAnswer s (told (r / 256 % 256) (r / 65536 % 256) (r / 16777216) (drawValue s seed span weights value)) % 256 ≡ 0
+  unfolding drawAnswer drawValue stepAnswer
+  drawn-steps e =
+      let p = toldProfile span weights in
+      let done : found .code ≡ 0 = sym code-of ∙ e in
+      let q = of-image s seed p done in
+      let made : drawnOf (kernelOf s) seed p .code ≡ 0 = rw (← q .1) done in
+      let small : (found .command .op < 256) × (found .command .a < 256) = rw (q .1) (drawn-small (kernelOf s) seed p (image-sound s (q .0)) made) in
+      let u = unpacked-draw found (code-small s seed p) (small .0) (small .1) in
+      let accepted = drawn-accepted (kernelOf s) seed p made in
+      rw (u .1, u .2, u .3, eq-eqb (found .code) 0 done, q .0, q .1) (omega (arith, accepted))
+
+  -- ## A refused draw changes nothing: its answer is the code alone, and the seed and the value are as they were
+  pub draw-refused : drawAnswer s seed span weights % 256 ≢ 0
+      → (drawAnswer s seed span weights < 256) × (drawSeed s seed span weights ≡ seed) × (drawValue s seed span weights value ≡ value)
+  unfolding drawAnswer drawSeed drawValue
+  draw-refused n =
+      let p = toldProfile span weights in
+      let small = code-small s seed p in
+      let other : found .code ≢ 0 = λ e. n (code-of ∙ e) in
+      let q = left-alone s seed p other in
+      (omega (arith, small, ap packedDrawn q), ap (λ (d : Drawn). d .seed) q, rw (ne-eqb (found .code) 0 other))
+
+-- ## Document 01's draw
+-- `seed 1 span 100 weights 10 10 10 10 10 10 10 10` on the image behind its five set-up lines: op 4 (1024 is 256 * 4), the time 39, the third draw as the seed.
+pub draws-39-there : let s = imageOf (encode (run fresh set-up)) in let w : List ℕ = 10 ∷ 10 ∷ 10 ∷ 10 ∷ 10 ∷ 10 ∷ 10 ∷ 10 ∷ [] in
+    (drawAnswer s 1 100 w ≡ 1024) × (drawSeed s 1 100 w ≡ 2647435461) × (drawValue s 1 100 w 0 ≡ 39)
+unfolding drawAnswer drawSeed drawValue
+draws-39-there =
+    let k = encode (run fresh set-up) in
+    let q = draws-state k 1 (toldProfile 100 (10 ∷ 10 ∷ 10 ∷ 10 ∷ 10 ∷ 10 ∷ 10 ∷ 10 ∷ [])) (encode-sound (run fresh set-up) (run-sound set-up fresh fresh-sound)) ∙ draws-39 in
+    (ap packedDrawn q, ap (λ (d : Drawn). d .seed) q, ap (λ (d : Drawn). cond (eqb (d .code) 0) (d .command .value) 0) q)
+
+-- ## No second answer
+-- What a call's contract says of its answer and of what it was lent, only one value meets.
+one : {A : Type 0} {d r q : A} → r ≡ d → q ≡ d → r ≡ q
+one e f = e ∙ sym f
+
+pub step-single : (s : List ℕ) (c : Command) (r q : ℕ) (t u : List ℕ) → (r ≡ stepAnswer s c) × (t ≡ stepImage s c) → (q ≡ stepAnswer s c) × (u ≡ stepImage s c) → (r ≡ q) × (t ≡ u)
+step-single s c r q t u e f = (one (e .0) (f .0), one (e .1) (f .1))
+
+pub fresh-single : (s : List ℕ) (r q : ℕ) (t u : List ℕ) → (r ≡ freshAnswer s) × (t ≡ freshImage s) → (q ≡ freshAnswer s) × (u ≡ freshImage s) → (r ≡ q) × (t ≡ u)
+fresh-single s r q t u e f = (one (e .0) (f .0), one (e .1) (f .1))
+
+pub left-single : (s : List ℕ) (t r q : ℕ) → r ≡ leftAnswer s t → q ≡ leftAnswer s t → r ≡ q
+left-single s t r q = one
+
+pub draw-single : (s : List ℕ) (seed span : ℕ) (w : List ℕ) (value r q x y v u : ℕ)
+    → (r ≡ drawAnswer s seed span w) × (x ≡ drawSeed s seed span w) × (v ≡ drawValue s seed span w value)
+    → (q ≡ drawAnswer s seed span w) × (y ≡ drawSeed s seed span w) × (u ≡ drawValue s seed span w value) → (r ≡ q) × (x ≡ y) × (v ≡ u)
+draw-single s seed span w value r q x y v u e f = (one (e .0) (f .0), one (e .1) (f .1), one (e .2) (f .2))

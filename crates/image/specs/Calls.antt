@@ -3,12 +3,15 @@ use Prim.Native.Nat.{ℕ, _+_, _*_}
 use mathlib.Core.Bool.{cond, _&&_}
 use mathlib.Core.List.{List}
 use lib.Dec.{eqb, leb}
-use lib.ListN.{length}
+use lib.ListN.{length, replicate}
 use Rattle.rules.specs.Machine.{Command, fresh}
 use Rattle.kernel.specs.declared.command.Answer.{Answer}
 use Rattle.kernel.specs.declared.Left.{Left}
 use Rattle.kernel.specs.View.{encode}
 use Rattle.kernel.specs.Public.{stepOf, leftOf}
+use Rattle.generator.specs.declared.Profile.{Profile}
+use Rattle.generator.specs.declared.Drawn.{Drawn}
+use Rattle.generator.specs.Public.{drawnOf, refusedOf}
 use Rattle.image.specs.Layout.{imageOf, kernelOf, isImage}
 
 -- The command that four numbers of any size say. None is cut: 260 is not 4.
@@ -47,3 +50,31 @@ packedLeft l = l .code + 256 * l .left
 
 unfoldable pub leftAnswer : List ℕ → ℕ → ℕ
 leftAnswer s t = cond (isImage s) (packedLeft (leftOf (kernelOf s) t)) 1
+
+-- The profile that a span of any size and a list of weights say. Where they are not eight the span is 0, and so 18 refuses it.
+abbrev pub toldProfile : ℕ → List ℕ → Profile
+toldProfile span weights = record { span = cond (eqb (length weights) 8) span 0; weights = weights }
+
+-- What the generator is asked, whose profiles are of 32-bit numbers: the profile, or one of zeros, which is refused as it would be (proofs/Cut).
+abbrev pub fittedProfile : ℕ → List ℕ → Profile
+fittedProfile span weights =
+    cond (leb span 4294967295 && eqb (length weights) 8) (record { span = span; weights = weights }) (record { span = 0; weights = replicate 8 0 })
+
+-- A draw: the generator's draw over the state that the image holds. Bytes that are no image are refused with 1, before all else.
+unfoldable pub drawOn : List ℕ → ℕ → Profile → Drawn
+drawOn s seed p = cond (isImage s) (drawnOf (kernelOf s) seed p) (refusedOf 1 seed)
+
+-- In one number: code + 256 * op + 65536 * a + 16777216 * b.
+abbrev pub packedDrawn : Drawn → ℕ
+packedDrawn d = d .code + 256 * d .command .op + 65536 * d .command .a + 16777216 * d .command .b
+
+unfoldable pub drawAnswer : List ℕ → ℕ → ℕ → List ℕ → ℕ
+drawAnswer s seed span weights = packedDrawn (drawOn s seed (toldProfile span weights))
+
+-- The seed that an accepted draw leaves is advanced, and its value is the drawn command's; a refused one leaves both as they were.
+unfoldable pub drawSeed : List ℕ → ℕ → ℕ → List ℕ → ℕ
+drawSeed s seed span weights = drawOn s seed (toldProfile span weights) .seed
+
+unfoldable pub drawValue : List ℕ → ℕ → ℕ → List ℕ → ℕ → ℕ
+drawValue s seed span weights value =
+    let d = drawOn s seed (toldProfile span weights) in cond (eqb (d .code) 0) (d .command .value) value

@@ -56,6 +56,10 @@ kernelOf s = record {
 unfoldable pub clean : List ℕ → Bool
 clean s = leb (getD s 8 0) 1 && zeros (part 7 9 s) && zeros (part 32 192 s) && zeros (part 32 224 s)
 
--- An image: 512 bytes that hold a sound state.
+-- 512 bytes of which a state can be read.
+unfoldable pub formed : List ℕ → Bool
+formed s = eqb (length s) 512 && clean s
+
+-- An image: such bytes, whose state is sound.
 unfoldable pub isImage : List ℕ → Bool
-isImage s = eqb (length s) 512 && clean s && isSound (kernelOf s)
+isImage s = formed s && isSound (kernelOf s)

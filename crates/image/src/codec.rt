@@ -6,7 +6,7 @@ ghost use lib.ListN.{length, take, drop};
 ghost use Rattle.rules.specs.Line.{one-if};
 ghost use Rattle.line.specs.Tables.{zeros};
 ghost use Rattle.tape.specs.Form.{le8, ofLe};
-ghost use Rattle.image.specs.Layout.{bytesOf, numbersOf, imageOf, part, kernelOf, clean};
+ghost use Rattle.image.specs.Layout.{bytesOf, numbersOf, imageOf, part, kernelOf, clean, formed};
 use kernel::Kernel;
 
 // ---- Writing: what is written so far grows at its end.
@@ -214,11 +214,21 @@ fn is_zero(s: &[u8], at: usize, n: usize) -> bool
     zero
 }
 
-pub(crate) fn is_clean(s: &[u8]) -> bool
+fn is_clean(s: &[u8]) -> bool
     requires { ⌜ length (now s) ≡ 512 ⌝ }
     ensures { λ r. ⌜ r ≡ clean (now (s .entry)) ⌝ }
 {
     (s[8] <= 1) & is_zero(s, 9, 7) & is_zero(s, 192, 32) & is_zero(s, 224, 32)
+}
+
+// What is asked of bytes before a state is read off them.
+pub(crate) fn is_formed(s: &[u8]) -> bool
+    ensures { λ r. ⌜ r ≡ formed (now (s .entry)) ⌝ }
+{
+    if s.len() != 512 {
+        return false;
+    }
+    is_clean(s)
 }
 
 // ---- The whole into the bytes that a host lends

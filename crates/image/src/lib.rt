@@ -5,7 +5,11 @@
 ghost use mathlib.Core.Path.{_≡_};
 ghost use Prim.Native.Nat.{_<_};
 ghost use Rattle.kernel.specs.Public.{said};
+ghost use Rattle.generator.specs.Public.{refusedOf};
 ghost use Rattle.image.specs.Calls.{told, fitted, fittedTask, packed, stepAnswer, stepImage, freshAnswer, freshImage, packedLeft, leftAnswer};
+ghost use Rattle.image.specs.Calls.{fittedProfile, drawOn, packedDrawn, drawAnswer, drawSeed, drawValue};
+use generator::Drawn;
+use generator::Profile;
 use kernel::Answer;
 use kernel::Command;
 use kernel::Kernel;
@@ -76,10 +80,7 @@ fn pack_left(l: Left) -> u32
 pub extern "C" fn rvn_step(image: &mut [u8], op: u64, a: u64, b: u64, value: u64) -> u32
     ensures { λ r. ⌜ (r ≡ stepAnswer (now (image .entry)) (told op a b value)) × (now (image .exit) ≡ stepImage (now (image .entry)) (told op a b value)) ⌝ }
 {
-    if image.len() != 512 {
-        return 1;
-    }
-    if !codec::is_clean(image) {
+    if !codec::is_formed(image) {
         return 1;
     }
     let k = codec::decode(image);
@@ -111,12 +112,95 @@ pub extern "C" fn rvn_fresh(image: &mut [u8]) -> u32
 pub extern "C" fn rvn_wakes_left(image: &[u8], t: u64) -> u32
     ensures { λ r. ⌜ r ≡ leftAnswer (now (image .entry)) t ⌝ }
 {
-    if image.len() != 512 {
-        return 1;
-    }
-    if !codec::is_clean(image) {
+    if !codec::is_formed(image) {
         return 1;
     }
     let k = codec::decode(image);
     pack_left(k.wakes_left(task(t)))
+}
+
+// ---- A drawn command
+
+// The profile that a span and weights say. One that fits no 32 bits, or other than eight weights, is refused with 18, as span 0 is.
+fn profile(span: u64, weights: &[u32]) -> Profile
+    ensures { λ r. ⌜ r ≡ fittedProfile span (now (weights .entry)) ⌝ }
+{
+    let none = Profile {
+        span: 0,
+        weights: [0; 8],
+    };
+    if 4294967295 < span {
+        return none;
+    }
+    if weights.len() != 8 {
+        return none;
+    }
+    Profile {
+        span: span as u32,
+        weights: [
+            weights[0],
+            weights[1],
+            weights[2],
+            weights[3],
+            weights[4],
+            weights[5],
+            weights[6],
+            weights[7],
+        ],
+    }
+}
+
+// The answer where there is no image.
+fn no_image(seed: u32) -> Drawn
+    ensures { λ r. ⌜ r ≡ refusedOf 1 seed ⌝ }
+{
+    Drawn {
+        code: 1,
+        command: Command {
+            op: 0,
+            a: 0,
+            b: 0,
+            value: 0,
+        },
+        seed,
+    }
+}
+
+// The generator's draw over the state that the image holds.
+fn draw_on(image: &[u8], seed: u32, p: Profile) -> Drawn
+    ensures { λ r. ⌜ r ≡ drawOn (now (image .entry)) seed p ⌝ }
+{
+    if !codec::is_formed(image) {
+        return no_image(seed);
+    }
+    generator::draw(codec::decode(image), seed, p)
+}
+
+fn pack_drawn(d: Drawn) -> u32
+    ensures { λ r. ⌜ r ≡ packedDrawn d ⌝ }
+{
+    let c = d.command;
+    wide(d.code) + 256 * wide(c.op) + 65536 * wide(c.a) + 16777216 * wide(c.b)
+}
+
+// Draws a command for the machine of an image, which it only reads: the answer is code + 256 * op + 65536 * a + 16777216 * b. The seed is
+// advanced where it stands, and the command's value stored. A refusal leaves both.
+#[no_mangle]
+pub extern "C" fn rvn_draw(
+    image: &[u8],
+    seed: &mut u32,
+    span: u64,
+    weights: &[u32],
+    value: &mut u64,
+) -> u32
+    ensures { λ r. ⌜ (r ≡ drawAnswer (now (image .entry)) (now (seed .entry)) span (now (weights .entry))) × (now (seed .exit) ≡ drawSeed (now (image .entry)) (now (seed .entry)) span (now (weights .entry))) × (now (value .exit) ≡ drawValue (now (image .entry)) (now (seed .entry)) span (now (weights .entry)) (now (value .entry))) ⌝ }
+{
+    let d = draw_on(image, *seed, profile(span, weights));
+    let r = pack_drawn(d);
+    if d.code != 0 {
+        return r;
+    }
+    *seed = d.seed;
+    *value = d.command.value;
+    r
 }

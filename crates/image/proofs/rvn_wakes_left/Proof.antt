@@ -7,23 +7,19 @@ use Rattle.kernel.specs.Public.{leftOf}
 use Rattle.image.specs.Layout.{kernelOf}
 use Rattle.image.specs.Calls.{packedLeft}
 use Rattle.image.proofs.Cut.{asked-left}
-use Rattle.image.proofs.Exits.{wrong-length-left, not-clean-left, answered-left}
+use Rattle.image.proofs.Exits.{formed-size, none-left, answered-left}
 use Rattle.image.proofs.rvn_wakes_left.Statement.{statement}
 use Rattle.image.proofs.rvn_wakes_left.Tie as tie
 
+is-formed-requires : tie.Need-is-formed-requires
+is-formed-requires c κs = search needs
+
 returns : tie.Need-returns
-returns c = let a = c .before .before .args in wrong-length-left (a .image .now) (a .t) (c .if1 .taken)
-
-is-clean-requires : tie.Need-is-clean-requires
-is-clean-requires c κs = search needs
-
-returns-2 : tie.Need-returns-2
-returns-2 c =
-    let a = c .before .before .before .before .args in
-    not-clean-left (a .image .now) (a .t) (sym (c .before .is-clean .ensures) ∙ not-true _ (c .if2 .taken))
+returns c =
+    let a = c .before .before .before .args in none-left (a .image .now) (a .t) (sym (c .before .is-formed .ensures) ∙ not-true _ (c .if1 .taken))
 
 decode-requires : tie.Need-decode-requires
-decode-requires c κs = search needs
+decode-requires c κs = formed-size _ (sym (c .before .is-formed .ensures) ∙ not-false _ (c .if1 .left))
 
 task-requires : tie.Need-task-requires
 task-requires c κs = search needs
@@ -34,28 +30,26 @@ wakes-left-requires c κs = search needs
 pack-left-requires : tie.Need-pack-left-requires
 pack-left-requires c κs = search needs
 
-returns-3 : tie.Need-returns-3
-returns-3 c =
+returns-2 : tie.Need-returns-2
+returns-2 c =
     let asking = c .before in
     let reading = asking .before .before in
-    let cleaned = reading .before in
-    let test = cleaned .before .before in
-    let a = test .before .before .args in
+    let test = reading .before in
+    let a = test .before .before .before .args in
     let s = a .image .now in
-    let clean-so = sym (cleaned .before .is-clean .ensures) ∙ not-false _ (cleaned .if2 .left) in
+    let so = sym (test .before .is-formed .ensures) ∙ not-false _ (test .if1 .left) in
     let left : asking .wakes-left .result ≡ leftOf (kernelOf s) (a .t) =
     asked-left (kernelOf s) (a .t) (asking .wakes-left .ensures) (reading .decode .ensures) (asking .before .task .ensures) in
-    c .pack-left .ensures ∙ ap (λ (l : Left). packedLeft l) left ∙ answered-left s (a .t) (test .if1 .left) clean-so
+    c .pack-left .ensures ∙ ap (λ (l : Left). packedLeft l) left ∙ answered-left s (a .t) so
 
 pub rvn-wakes-left-spec : {M : Type 1} → statement M
 rvn-wakes-left-spec =
     tie.close
     (tie.spec
+    is-formed-requires
     returns
-    is-clean-requires
-    returns-2
     decode-requires
     task-requires
     wakes-left-requires
     pack-left-requires
-    returns-3)
+    returns-2)
