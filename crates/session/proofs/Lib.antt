@@ -4,3 +4,5 @@ pub mod Feeding
 pub mod Drawing
 pub mod Theorems
 pub mod DrawWhole
+pub mod Profiles
+pub mod Single
