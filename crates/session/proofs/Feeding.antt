@@ -3,7 +3,7 @@
 use Prim.Native.Nat.{ℕ, zero, suc, _+_, _-_, _*_, _<_, _≤_}
 use native.Mathlib.Omega.{arith}
 use native.Mathlib.Nat.{add-zero}
-use mathlib.Core.Bool.{Bool, true, false, cond}
+use mathlib.Core.Bool.{Bool, true, false, cond, true≢false}
 use mathlib.Core.Path.{_≡_, refl, ap, sym, _∙_}
 use mathlib.Core.List.{List, [], _∷_, _++_}
 use borrow.Author.Tests.{le-leb, lt-leb}
@@ -14,9 +14,10 @@ use Rattle.kernel.specs.declared.Kernel.{Kernel}
 use Rattle.text.specs.declared.command.Spoken.{Spoken}
 use Rattle.text.specs.declared.split.Held.{Held}
 use Rattle.text.specs.declared.split.Cut.{Cut}
+use Rattle.text.specs.declared.split.Told as said
 use Rattle.text.specs.Buffer.{contents-after, place-after}
 use Rattle.text.specs.Commands.{command-of}
-use Rattle.text.specs.Lines.{cut-of, cuts, holds-after, held-bytes, nothing-held}
+use Rattle.text.specs.Lines.{cut-of, told-of, cuts, holds-after, held-bytes, nothing-held}
 use Rattle.text.specs.Printed.{walk-line}
 use Rattle.text.proofs.Stores.{sets-append}
 use Rattle.session.specs.declared.tell.Told.{Told}
@@ -63,6 +64,33 @@ module _ (h : Held) (p : List ℕ) (from : ℕ) where
   holds-none zero o = refl
   holds-none (suc left) o = absurd (omega arith)
 
+-- what a reader of commands is told, by the cut: of a whole line its command, and nothing held; else all that there was is held
+module _ (h : Held) (p : List ℕ) (from : ℕ) (x : said.Told) (e : x ≡ told-of h p from) where
+  pub record Whole : Type 0 where
+    pub whole : cut-of h p from .whole ≡ true
+    pub command : x .said ≡ command-of (held-bytes (cut-of h p from .held))
+    pub held : x .held ≡ nothing-held
+    pub next : x .next ≡ cut-of h p from .next
+
+  pub told-whole : x .whole ≡ true → Whole
+  unfolding told-of
+  told-whole w = go (cut-of h p from .whole) refl
+    where
+      go : (t : Bool) → cut-of h p from .whole ≡ t → Whole
+      go true t = record { whole = t; command = rw (e, t); held = rw (e, t); next = rw (e, t) }
+      go false t = absurd (true≢false (sym w ∙ rw (e, t)))
+
+  pub told-part : x .whole ≡ false → (cut-of h p from .whole ≡ false) × (cut-of h p from .held ≡ x .held)
+  unfolding told-of
+  told-part w = go (cut-of h p from .whole) refl
+    where
+      whole-as : cut-of h p from .whole ≡ true → x .whole ≡ true
+      whole-as t = rw (e, t)
+
+      go : (t : Bool) → cut-of h p from .whole ≡ t → (cut-of h p from .whole ≡ false) × (cut-of h p from .held ≡ x .held)
+      go true t = absurd (true≢false (sym (whole-as t) ∙ w))
+      go false t = (t, rw (e, t))
+
 made : {k k′ : Kernel} {h h′ : Held} {n n′ : ℕ} → k ≡ k′ → h ≡ h′ → n ≡ n′ → _≡_ {A = Walk} (record { kernel = k; held = h; n = n }) (record { kernel = k′; held = h′; n = n′ })
 made a b d = cc
 
@@ -103,14 +131,14 @@ module _ (w : Walk) (p out₀ : List ℕ) where
             room = simp length-sets (omega (arith, s .room, walk-short (row-for k (following n) (command-of (held-bytes (c .held))))));
           }
 
-      module _ (n′ at′ : ℕ) (said : Spoken) (t : Told) (out′ : List ℕ) (h′ : Held)
+      module _ (n′ at′ next : ℕ) (said : Spoken) (t : Told) (out′ : List ℕ) (h′ : Held) (ex : next ≡ c .next)
           (en : n′ ≡ following n) (es : said ≡ command-of (held-bytes (c .held))) (et : t ≡ told k n′ said)
           (ea : at′ ≡ place-after 128 out at (walk-line (t .row))) (eo : out′ ≡ contents-after 128 out at (walk-line (t .row))) (eh : h′ ≡ nothing-held) where
-        pub still-again : 0 < left → c .whole ≡ true → Still (t .kernel) h′ n′ (c .next) at′ (left - 1) out′
+        pub still-again : 0 < left → c .whole ≡ true → Still (t .kernel) h′ n′ next at′ (left - 1) out′
         unfolding line
         still-again o y =
             let i : at + 128 ≤ length out = omega (arith, s .room) in
-            rw (ea, eo, le-leb (at + 128) (length out) i, eh, et, es, en) (still-line o y)
+            rw (ea, eo, le-leb (at + 128) (length out) i, ex, eh, et, es, en) (still-line o y)
 
     -- no line is left: what is left of the piece is held
     module _ (h′ : Held) (z : cuts left h p from ≡ []) (eh : holds-after left h p from ≡ h′) where
