@@ -1,5 +1,6 @@
 pub mod Short
 pub mod Telling
+pub mod Filling
 pub mod Feeding
 pub mod Drawing
 pub mod Theorems

@@ -1,12 +1,11 @@
 -- `session::walk::feed` meets its contract: proofs/Feeding has the invariant, and what a turn and each way out do. Assumes nothing.
-use Prim.Native.Nat.{ℕ, suc, _+_, _-_, _*_, _<_, _≤_}
+use Prim.Native.Nat.{suc, _*_, _≤_}
 use native.Mathlib.Numerals.{add-one}
 use native.Mathlib.Omega.{arith}
-use mathlib.Core.Path.{_≡_, refl, _∙_}
+use mathlib.Core.Path.{refl, _∙_}
 use borrow.Author.Tests.{not-true, not-false}
 use borrow.Author.Needs.{needs}
 use lib.ListN.{length}
-use lib.Seq.{length-sets}
 use Rattle.text.specs.Lines.{cut-of}
 use Rattle.session.proofs.Feeding.{Still, still-first, still-again, told-whole, told-part, cuts-part, holds-part, cuts-none, holds-none, all-walked, no-room}
 use Rattle.session.proofs.walk.feed.Statement.{statement}
@@ -36,7 +35,7 @@ next-command-requires : tie.Need-next-command-requires Inv-loop μ-loop
 next-command-requires c κs = search needs
 
 same-length : tie.Need-same-length Inv-loop μ-loop
-same-length c = c .before .before .before .before .before .loop .inv .0 .size
+same-length c = c .before .before .before .before .before .loop .inv .0 .filling .size
 
 returns-2 : tie.Need-returns-2 Inv-loop μ-loop
 returns-2 c =
@@ -82,7 +81,7 @@ loop-again c =
     )
 
 same-length-2 : tie.Need-same-length-2 Inv-loop μ-loop
-same-length-2 c = c .before .loop .inv .0 .size
+same-length-2 c = c .before .loop .inv .0 .filling .size
 
 returns-3 : tie.Need-returns-3 Inv-loop μ-loop
 returns-3 c =
