@@ -6,4 +6,5 @@ pub mod Drawing
 pub mod Theorems
 pub mod DrawWhole
 pub mod Profiles
+pub mod Accepted
 pub mod Single
