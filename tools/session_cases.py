@@ -58,29 +58,37 @@ def first(seed='1', span='100', weights='10 10 10 10 10 10 10 10', count='3'):
     return f'seed {seed} span {span} weights {weights} count {count}'
 
 
+def first_lines():
+    """Bad first lines, by the number that document 01 gives them."""
+    return {
+        14: [
+            '', ' ', 'seed', first() + ' ', ' ' + first(), first().upper(), first()[5:], first(seed=''), first(seed=' 1'), first(span=''), first(span='4294967296'),
+            first(span='01'), first(span='-1'), first(weights='10 10 10 10 10 10 10'), first(weights='10 10 10 10 10 10 10 10 10'),
+            first(weights='10 10 10 10 10 10 10 4294967296'), first(weights='10 10 10 10 10 10 10 00'), first(count='0'), first(count='100001'), first(count='03'),
+            first(count=''), first() + ' 1', first() + '\r', first(seed='7' * 75), 'x' * 129, 'x' * 3000, first(seed='0', span='0', count='0'),
+        ],
+        17: [  # the seed's word
+            first(seed='0'), first(seed='-1647531835'), first(seed='4294967296'), first(seed='01'), first(seed='x'), first(seed='1\r'), first(seed='\0'), first(seed='\xff'),
+            first(seed='12345678901'), first(seed='7' * 74), first(seed='0', span='0', weights='101 0 0 0 0 0 0 0'),
+        ],
+        18: [
+            first(span='0'), first(span='1000001'), first(span='4294967295'), first(weights='101 10 10 10 10 10 10 10'), first(weights='10 10 10 10 10 10 10 101'),
+            first(weights='10 0 10 10 10 10 10 10'),
+        ],
+    }
+
+
 def draws():
     setup = ('create 1 3', 'create 2 5', 'create 3 3', 'object 1 4', 'start')
     yield text(first(count='1'), *setup)                                         # document 01's case
     yield text(first(), *setup)[:-1]                                             # the start is the last line, without a line end
     yield text(first(), *setup, 'create 4 1', 'advance 5')                       # behind an accepted start no line is read
     yield text(first(), 'wake', '', 'creat 1 2', 'create 99 1', *setup)          # refused and malformed setup lines count
-    bad = [
-        # 14: the form
-        '', ' ', 'seed', first() + ' ', ' ' + first(), first().upper(), first()[5:], first(seed=''), first(seed=' 1'), first(span=''), first(span='4294967296'),
-        first(span='01'), first(span='-1'), first(weights='10 10 10 10 10 10 10'), first(weights='10 10 10 10 10 10 10 10 10'),
-        first(weights='10 10 10 10 10 10 10 4294967296'), first(weights='10 10 10 10 10 10 10 00'), first(count='0'), first(count='100001'), first(count='03'),
-        first(count=''), first() + ' 1', first() + '\r', first(seed='7' * 80), 'x' * 129, 'x' * 3000, first(seed='0', span='0', count='0'),
-        # 17: the seed's word
-        first(seed='0'), first(seed='-1647531835'), first(seed='4294967296'), first(seed='01'), first(seed='x'), first(seed='1\r'), first(seed='\0'), first(seed='\xff'),
-        first(seed='12345678901'), first(seed='7' * 77), first(seed='0', span='0', weights='101 0 0 0 0 0 0 0'),
-        # 18: the profile
-        first(span='0'), first(span='1000001'), first(span='4294967295'), first(weights='101 10 10 10 10 10 10 10'), first(weights='10 10 10 10 10 10 10 101'),
-        first(weights='10 0 10 10 10 10 10 10'),
-        # the largest that are fair, and no start
-        first(seed='4294967295', span='1000000', weights='100 100 100 100 100 100 100 100', count='100000'),
-    ]
-    for line in bad:
-        yield text(line, *(() if line == bad[-1] else setup))
+    for lines in first_lines().values():
+        for line in lines:
+            yield text(line, *setup)
+    # the largest that is fair, and no start
+    yield text(first(seed='4294967295', span='1000000', weights='100 100 100 100 100 100 100 100', count='100000'))
 
 
 # ---- What they reach
@@ -120,7 +128,17 @@ def run(program, *args, given=b''):
     return subprocess.run([path, *args], input=given, stdout=subprocess.PIPE, check=True).stdout
 
 
+def test_first_lines():
+    """The second program too must give each the number by which it stands here."""
+    for number, lines in first_lines().items():
+        for line in lines:
+            said = run('draw2', given=text(line)).split(b'\n')[1]
+            if said != b'0 0 0 0 0 %d 0 0 0' % number:
+                sys.exit(f'session_cases: the second program says {said.decode()} of the first line {line!r}, which is to be {number}')
+
+
 def made():
+    test_first_lines()
     files, printed, seen = {}, {}, set()
     for kind, odd in (('walk', walks()), ('draw', draws())):
         inputs = list(odd) + [run('make_input', kind, str(number)) for number in MADE[kind]]
