@@ -8,7 +8,7 @@ use native.Mathlib.Numerals.{add-one}
 use native.Mathlib.Omega.{arith}
 use lib.ListN.{length, take, drop, getD, length-append, length-drop}
 use lib.Seq.{take-suc, take-all, getD-drop, take-add, drop-drop}
-use Rattle.tape.specs.Form.{le8, ofLe}
+use Rattle.record.specs.Form.{le8, ofLe}
 use Rattle.image.specs.Layout.{bytesOf, numbersOf}
 
 pub bytes-snoc : (l : List ℕ) (x : ℕ) → bytesOf (l ++ (x ∷ [])) ≡ bytesOf l ++ le8 x

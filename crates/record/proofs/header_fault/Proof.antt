@@ -1,7 +1,7 @@
--- `tape::header_fault` meets its contract: the code is the definition, test by test. Assumes nothing.
+-- `record::header_fault` meets its contract: the code is the definition, test by test. Assumes nothing.
 use borrow.Author.Needs.{needs}
-use Rattle.tape.proofs.header_fault.Statement.{statement}
-use Rattle.tape.proofs.header_fault.Tie as tie
+use Rattle.record.proofs.header_fault.Statement.{statement}
+use Rattle.record.proofs.header_fault.Tie as tie
 
 header-fields-requires : tie.Need-header-fields-requires
 header-fields-requires c κs = search needs
