@@ -11,7 +11,11 @@ ghost use lib.Dec.{ltb};
 ghost use Rattle.tape.specs.Write.{writeCode, Written};
 ghost use Rattle.tape.specs.Read.{judged, endOf, readOf, numberOf, sizeOf, placeOf, codeAt, nextAt, PartAt, Opened, Next};
 pub use record::Record;
+use record::bytes_of;
+use record::choose;
+use record::fault;
 pub use record::header;
+use record::is_marked;
 pub use record::record_of;
 
 // ---- The writer
@@ -27,13 +31,9 @@ fn write_code(n: usize, at: usize, r: Record) -> u8
     ensures { λ c. ⌜ c ≡ writeCode n at r ⌝ }
 {
     let odd = at % 16 != 0;
-    let c = record::fault(at, r);
+    let c = fault(at, r);
     let short = lacks_room(n, at);
-    record::choose(
-        odd,
-        15,
-        record::choose(c != 0, c, record::choose(short, 16, 0)),
-    )
+    choose(odd, 15, choose(c != 0, c, choose(short, 16, 0)))
 }
 
 fn put(out: &mut [u8], p: [u8; 16])
@@ -56,7 +56,7 @@ pub fn write_at(out: &mut [u8], at: usize, r: Record) -> u8
     if c != 0 {
         return c;
     }
-    put(&mut out[at..], record::bytes_of(r));
+    put(&mut out[at..], bytes_of(r));
     0
 }
 
@@ -76,8 +76,8 @@ fn judge(p: &[u8], at: usize) -> Read
     requires { ⌜ at + 16 < 2 ^ 64 ⌝ }
     ensures { λ r. ⌜ r ≡ judged at (now (p .entry)) ⌝ }
 {
-    let r = record::record_of(p);
-    let c = record::choose(record::is_marked(p), record::fault(at, r), 15);
+    let r = record_of(p);
+    let c = choose(is_marked(p), fault(at, r), 15);
     if c != 0 {
         return Read::Refused(c);
     }
