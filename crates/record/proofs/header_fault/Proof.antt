@@ -16,7 +16,7 @@ choose-requires-2 : tie.Need-choose-requires-2
 choose-requires-2 c κs = search needs
 
 returns : tie.Need-returns
-returns c = cc
+returns c = rw (c .choose2 .ensures, c .before .choose .ensures, c .before .before .is-seed .ensures, c .before .before .before .header-fields .ensures)
 
 pub header-fault-spec : {M : Type 1} → statement M
 header-fault-spec =
