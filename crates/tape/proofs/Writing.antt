@@ -10,8 +10,8 @@ use lib.Dec.{ltb, eqb}
 use borrow.Author.Tests.{ltb-true, ltb-false, eqb-true, eqb-false, eq-eqb, ne-eqb, lt-ltb, le-ltb}
 use Rattle.record.specs.Form.{bytesOf}
 use Rattle.record.specs.Fault.{faultOf}
-use Rattle.tape.specs.Write.{writeCode, writeOf}
 use Rattle.record.specs.declared.Record.{Record}
+use Rattle.tape.specs.Write.{writeCode, writeOf}
 
 -- room tested by a difference, which cannot wrap
 pub room-same : (n at : ℕ) → at ≤ n → ltb (n - at) 16 ≡ ltb n (at + 16)
