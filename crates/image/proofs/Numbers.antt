@@ -1,5 +1,5 @@
 -- Laws of numbers of 8 bytes one behind another: one more written, the i-th read, and both ways round. Each goes number by number;
--- one number's own 8 bytes are the tape's laws. Assumes nothing.
+-- one number's own 8 bytes are crate record's laws. Assumes nothing.
 use mathlib.Core.Path.{_≡_, refl, sym, ap, _∙_}
 use mathlib.Core.List.{List, [], _∷_, _++_, append-assoc, append-nil}
 use Prim.Native.Nat.{ℕ, zero, suc, _+_, _*_, _≤_, _<_}
@@ -8,7 +8,7 @@ use native.Mathlib.Numerals.{add-one}
 use native.Mathlib.Omega.{arith}
 use lib.ListN.{length, take, drop, getD, length-append, length-drop}
 use lib.Seq.{take-suc, take-all, getD-drop, take-add, drop-drop}
-use Rattle.tape.specs.Form.{le8, ofLe}
+use Rattle.record.specs.Form.{le8, ofLe}
 use Rattle.image.specs.Layout.{bytesOf, numbersOf}
 
 pub bytes-snoc : (l : List ℕ) (x : ℕ) → bytesOf (l ++ (x ∷ [])) ≡ bytesOf l ++ le8 x

@@ -14,8 +14,8 @@ use Rattle.rules.specs.Line.{one-if}
 use Rattle.rules.proofs.Words.{All}
 use Rattle.rules.proofs.Tests.{and-true}
 use Rattle.line.specs.Tables.{zeros}
-use Rattle.tape.specs.Form.{le8, ofLe}
-use Rattle.tape.proofs.Digits.{value-back, bytes-back}
+use Rattle.record.specs.Form.{le8, ofLe}
+use Rattle.record.proofs.Digits.{value-back, bytes-back}
 use Rattle.kernel.specs.declared.Kernel.{Kernel}
 use Rattle.kernel.proofs.Round.{Tidy}
 use Rattle.image.specs.Layout.{bytesOf, numbersOf, flags, spare, imageOf, part, kernelOf, clean}

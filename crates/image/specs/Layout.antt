@@ -6,7 +6,7 @@ use lib.Dec.{eqb, leb}
 use lib.ListN.{length, take, drop, getD, replicate}
 use Rattle.rules.specs.Line.{one-if}
 use Rattle.line.specs.Tables.{zeros}
-use Rattle.tape.specs.Form.{le8, ofLe}
+use Rattle.record.specs.Form.{le8, ofLe}
 use Rattle.kernel.specs.declared.Kernel.{Kernel}
 use Rattle.kernel.specs.Public.{isSound}
 

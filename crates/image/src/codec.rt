@@ -5,7 +5,7 @@ ghost use Prim.Native.Nat.{_+_, _≤_, _<_};
 ghost use lib.ListN.{length, take, drop};
 ghost use Rattle.rules.specs.Line.{one-if};
 ghost use Rattle.line.specs.Tables.{zeros};
-ghost use Rattle.tape.specs.Form.{le8, ofLe};
+ghost use Rattle.record.specs.Form.{le8, ofLe};
 ghost use Rattle.image.specs.Layout.{bytesOf, numbersOf, imageOf, part, kernelOf, clean, formed};
 use kernel::Kernel;
 

@@ -7,18 +7,19 @@
 -- * Two answers that meet a public function's contract are one, and so are two final contents. Rules out: a contract that leaves an answer open. Which answer it is,
 --   the definitions of specs/ say. Of a part that is handed back the contract fixes contents and address; see docs/TAPE.md for what is left.
 -- Assumes nothing.
-use mathlib.Core.Path.{_≡_, refl, sym, _∙_}
+use mathlib.Core.Path.{_≡_, refl}
 use mathlib.Core.List.{List}
 use Prim.Native.Nat.{ℕ, _+_, _≤_}
 use native.Mathlib.Omega.{arith}
 use lib.ListN.{length, take, drop, length-drop}
 use lib.Seq.{length-take-le}
 use denote.Ref.{RefT, now}
+use Rattle.record.specs.declared.Record.{Record}
+use Rattle.record.proofs.Answers.{one-answer}
 use Rattle.tape.specs.Write.{Written}
-use Rattle.tape.specs.Read.{readOf, sizeOf, startOf, placeOf, partAt, startAt, nextAt, PartAt, Opened, Next}
+use Rattle.tape.specs.Read.{readOf, numberOf, sizeOf, startOf, placeOf, codeAt, partAt, startAt, nextAt, PartAt, Opened, Next}
 use Rattle.tape.specs.declared.Part.{Part}
 use Rattle.tape.specs.declared.Reader.{Reader}
-use Rattle.tape.specs.declared.Record.{Record}
 use Rattle.tape.specs.declared.Read.{Read}
 use Rattle.tape.specs.declared.Read.the-variants.{Found, End, Refused}
 use Rattle.tape.proofs.Reading.{Stands, stands, found, end, no-record, no-seed}
@@ -64,9 +65,18 @@ place-moves s at = go (stands s at)
 
 -- ---- No second answer
 
--- header, record_of, number, read_at, code_at, next_at: a contract that is an equation
-pub one-answer : {A : Type 0} {x y z : A} → x ≡ z → y ≡ z → x ≡ y
-one-answer p q = p ∙ sym q
+-- read_at, number, code_at, next_at: a contract that is an equation. (So are those of header and record_of: crate record's Answers.)
+pub one-read : (s : List ℕ) (at : ℕ) (r r′ : Read) → r ≡ readOf s at → r′ ≡ readOf s at → r ≡ r′
+one-read s at r r′ = one-answer
+
+pub one-number : (r : Read) (c c′ : ℕ) → c ≡ numberOf r → c′ ≡ numberOf r → c ≡ c′
+one-number r c c′ = one-answer
+
+pub one-code : (s : List ℕ) (at c c′ : ℕ) → c ≡ codeAt s at → c′ ≡ codeAt s at → c ≡ c′
+one-code s at c c′ = one-answer
+
+pub one-place : (s : List ℕ) (at n n′ : ℕ) → n ≡ nextAt s at → n′ ≡ nextAt s at → n ≡ n′
+one-place s at n n′ = one-answer
 
 -- write_at: its answer and the buffer
 pub one-write : (s : List ℕ) (at : ℕ) (r : Record) {c c′ : ℕ} {after after′ : List ℕ} → Written s at r c after → Written s at r c′ after′ → (c ≡ c′) × (after ≡ after′)

@@ -1,7 +1,6 @@
 pub mod Copy
 pub mod Writing
 pub mod Reading
-pub mod Digits
 pub mod RoundTrip
 pub mod Runs
 pub mod Answers

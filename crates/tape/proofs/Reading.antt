@@ -8,19 +8,12 @@ use native.Mathlib.Omega.{arith}
 use lib.ListN.{length, take, drop}
 use lib.Dec.{ltb, eqb}
 use borrow.Author.Tests.{ltb-false, eqb-true, eqb-false, eq-eqb, ne-eqb, lt-ltb, le-ltb}
-use Rattle.tape.specs.Form.{recordOf, marked, headerFields, commandFields, isSeed}
-use Rattle.tape.specs.Write.{faultOf}
+use Rattle.record.specs.Form.{recordOf, marked, headerFields, commandFields, isSeed}
+use Rattle.record.specs.Fault.{faultOf}
+use Rattle.record.proofs.Faults.{bytesFault, number, Number, numbered, right, wrong, unseeded}
 use Rattle.tape.specs.Read.{judged, endOf, readOf, sizeOf, startOf, partAt, startAt}
 use Rattle.tape.specs.declared.Read.{Read}
 use Rattle.tape.specs.declared.Read.the-variants.{Found, End, Refused}
-
--- 16 bytes by the number that the writer gives their fields, and 15 for a wrong mark
-abbrev pub bytesFault : ℕ → List ℕ → ℕ
-bytesFault at p = cond (marked p) (faultOf at (recordOf p)) 15
-
--- that number by its tests: place 0, the mark, a header's fields, a seed, a command record's fields
-abbrev number : Bool → Bool → Bool → Bool → Bool → ℕ
-number z m h v k = cond m (cond z (cond h (cond v 0 17) 15) (cond k 0 15)) 15
 
 -- reader and writer judge alike
 pub judged-fault : (at : ℕ) (p : List ℕ) → judged at p ≡ cond (eqb (bytesFault at p) 0) (Found (recordOf p) (at + 16)) (Refused (bytesFault at p))
@@ -40,25 +33,6 @@ judged-fault at p = go (eqb at 0) (marked p) (headerFields (recordOf p)) (isSeed
     go false true h v true = refl
     go false true h v false = refl
     go false false h v k = refl
-
--- the numbers that fields or bytes get at a place
-data Number (at : ℕ) : ℕ → Type 0 where
-  right : Number at 0
-  wrong : Number at 15
-  unseeded : at ≡ 0 → Number at 17
-
-numbered : (at : ℕ) (p : List ℕ) → Number at (bytesFault at p)
-unfolding faultOf
-numbered at p = go (eqb at 0) refl (marked p) (headerFields (recordOf p)) (isSeed (recordOf p .value)) (commandFields (recordOf p))
-  where
-    go : (z : Bool) → eqb at 0 ≡ z → (m h v k : Bool) → Number at (number z m h v k)
-    go true e true true true k = right
-    go true e true true false k = unseeded (eqb-true at 0 e)
-    go true e true false v k = wrong
-    go true e false h v k = wrong
-    go false e true h v true = right
-    go false e true h v false = wrong
-    go false e false h v k = wrong
 
 -- What a reader answers, with what holds there.
 pub data Stands (s : List ℕ) (at : ℕ) : Read → Type 0 where

@@ -1,7 +1,6 @@
--- A record that is read back is the record that was written, and the other way round.
+-- A record that is read back is the record that was written, and the other way round. (A record and its 16 bytes, both ways: crate record's
+-- RoundTrip.)
 --
--- * A record, spelt as 16 bytes, is read from them as itself; 16 bytes with a right mark are the bytes of the fields that they hold.
---   Rules out: another byte order, a field in another place, a field that is cut or left out, a mark that is not written.
 -- * Every seed has a header that is written, and every command record is written wherever there is room. Rules out: a writer that always refuses.
 -- * After an accepted write, for a header as for a command record, the reader finds the record at its place, and its part is the record's bytes;
 --   earlier and later bytes and the length are as before. Rules out: a write that spills, and a reader that refuses what the writer takes.
@@ -9,66 +8,25 @@
 --   what the writer refuses, and a reader that drops or alters a byte.
 -- What a run of records gives is in Runs. Assumes nothing.
 use mathlib.Core.Path.{_≡_, refl, sym, ap, _∙_}
-use mathlib.Core.List.{List, [], _∷_, _++_, append-assoc}
-use mathlib.Core.Bool.{Bool, true, false, cond, _&&_, true≢false}
-use Prim.Native.Nat.{ℕ, zero, suc, _+_, _-_, _%_, _<_, _≤_}
+use mathlib.Core.List.{List, _++_, append-assoc}
+use mathlib.Core.Bool.{Bool, true, false}
+use Prim.Native.Nat.{ℕ, _+_, _-_, _%_, _<_, _≤_}
 use native.Mathlib.Omega.{arith}
 use lib.ListN.{length, take, drop, getD, List·getD-eq-default, length-append, length-take, length-drop, take-append-drop}
-use lib.Seq.{drop-cons, drop-length, drop-drop, take-at, drop-at, getD-take, getD-drop, length-take-le}
+use lib.Seq.{drop-drop, take-at, drop-at, getD-take, getD-drop, length-take-le}
 use lib.Dec.{eqb, ltb, lit<}
 use borrow.Author.Tests.{eq-eqb, ne-eqb, le-leb, eqb-true, eqb-false, ltb-true, ltb-false}
-use Rattle.tape.specs.Form.{bytesOf, recordOf, marked, commandFields, headerOf}
-use Rattle.tape.specs.Write.{faultOf, writeCode, writeOf}
+use Rattle.record.specs.declared.Record.{Record}
+use Rattle.record.specs.Form.{bytesOf, recordOf, commandFields, headerOf}
+use Rattle.record.specs.Fault.{faultOf}
+use Rattle.record.proofs.RoundTrip.{fields-back, bytes-spelt, sixteen-long, value-kept}
+use Rattle.record.proofs.Faults.{own-fault, unfaulted}
+use Rattle.tape.specs.Write.{writeCode, writeOf}
 use Rattle.tape.specs.Read.{judged, readOf, partAt}
-use Rattle.tape.specs.declared.Record.{Record}
 use Rattle.tape.specs.declared.Read.{Read}
 use Rattle.tape.specs.declared.Read.the-variants.{Found}
-use Rattle.tape.proofs.Digits.{value-back, value-small, bytes-back}
 use Rattle.tape.proofs.Writing.{accepted, accepts}
-use Rattle.tape.proofs.Reading.{bytesFault, judged-is, read-judged, sixteen, Stands, stands, found, end, no-record, no-seed}
-
--- ---- Fields and bytes
-
--- a record is read from its bytes
-pub fields-back : (r : Record) → r .value < 18446744073709551616 → recordOf (bytesOf r) ≡ r
-unfolding recordOf bytesOf
-fields-back r h = ap (λ (v : ℕ). record { op = r .op; a = r .a; b = r .b; code = r .code; running = r .running; released = r .released; value = v }) (value-back (r .value) h)
-
--- a list, entry by entry
-abbrev spell : List ℕ → ℕ → ℕ → List ℕ
-spell l n zero = []
-spell l n (suc k) = getD l n 0 ∷ spell l (suc n) k
-
-spelled : (l : List ℕ) (k n : ℕ) → n + k ≡ length l → drop n l ≡ spell l n k
-spelled l zero n e = let z : length l ≡ n = omega arith in ap (λ (m : ℕ). drop m l) (sym z) ∙ drop-length l
-spelled l (suc k) n e = drop-cons l n 0 (omega arith) ∙ ap (λ (m : List ℕ). getD l n 0 ∷ m) (spelled l k (suc n) (omega arith))
-
-both : (x y : Bool) → (x && y) ≡ true → (x ≡ true) × (y ≡ true)
-both true true e = (refl, refl)
-both true false e = (refl, e)
-both false y e = (e, absurd (true≢false (sym e)))
-
-headed : {a b x y : ℕ} {l m : List ℕ} → a ≡ x → b ≡ y → (c d e f g h : ℕ) → l ≡ m → _≡_ {A = List ℕ} (a ∷ b ∷ c ∷ d ∷ e ∷ f ∷ g ∷ h ∷ l) (x ∷ y ∷ c ∷ d ∷ e ∷ f ∷ g ∷ h ∷ m)
-headed p q c d e f g h r = cc
-
--- 16 bytes with a right mark are the bytes of the fields that they hold
-pub bytes-spelt : (p : List ℕ) → length p ≡ 16 → ((i : ℕ) → getD p i 0 < 256) → marked p ≡ true → bytesOf (recordOf p) ≡ p
-unfolding bytesOf recordOf
-bytes-spelt p n small m =
-    let k = both (eqb (getD p 0 0) 82) (eqb (getD p 1 0) 86) m in
-    headed (sym (eqb-true (getD p 0 0) 82 (k .0))) (sym (eqb-true (getD p 1 0) 86 (k .1))) _ _ _ _ _ _ (bytes-back p 8 small) ∙ sym (spelled p 16 0 (sym n))
-
-pub sixteen-long : (r : Record) → length (bytesOf r) ≡ 16
-unfolding bytesOf
-sixteen-long r = refl
-
-own-mark : (at : ℕ) (r : Record) → bytesFault at (bytesOf r) ≡ faultOf at (recordOf (bytesOf r))
-unfolding bytesOf
-own-mark at r = refl
-
--- a record's own bytes have its own number
-own-fault : (at : ℕ) (r : Record) → r .value < 18446744073709551616 → bytesFault at (bytesOf r) ≡ faultOf at r
-own-fault at r h = own-mark at r ∙ ap (faultOf at) (fields-back r h)
+use Rattle.tape.proofs.Reading.{judged-is, read-judged, sixteen, Stands, stands, found, end, no-record, no-seed}
 
 -- ---- What the writer takes
 
@@ -149,14 +107,6 @@ pub record IsThere (s : List ℕ) (at : ℕ) (r : Record) (next : ℕ) : Type 0 
   pub value-fits : r .value < 18446744073709551616
   pub bytes : take 16 (drop at s) ≡ bytesOf r
 
--- the mark of bytes that have no fault
-unfaulted : (at : ℕ) (p : List ℕ) → bytesFault at p ≡ 0 → (marked p ≡ true) × (faultOf at (recordOf p) ≡ 0)
-unfaulted at p = go (marked p)
-  where
-    go : (m : Bool) → cond m (faultOf at (recordOf p)) 15 ≡ 0 → (m ≡ true) × (faultOf at (recordOf p) ≡ 0)
-    go true e = (refl, e)
-    go false e = absurd (omega arith)
-
 module _ (s : List ℕ) (small : (i : ℕ) → getD s i 0 < 256) where
   part-small : (at i : ℕ) → getD (take 16 (drop at s)) i 0 < 256
   part-small at i = go (ltb i 16) refl
@@ -164,10 +114,6 @@ module _ (s : List ℕ) (small : (i : ℕ) → getD s i 0 < 256) where
       go : (b : Bool) → ltb i 16 ≡ b → getD (take 16 (drop at s)) i 0 < 256
       go true e = let h : i < 16 = ltb-true i 16 e in rw (getD-take 16 (drop at s) i 0 h, getD-drop at s i 0) (small (at + i))
       go false e = let h : 16 ≤ i = ltb-false i 16 e in rw (List·getD-eq-default (take 16 (drop at s)) 0 {n = i} (omega (arith, length-take 16 (drop at s)))) (lit< tt)
-
-  value-kept : (p : List ℕ) → ((i : ℕ) → getD p i 0 < 256) → recordOf p .value < 18446744073709551616
-  unfolding recordOf
-  value-kept p h = value-small p 8 h
 
   pub is-there : (at : ℕ) (r : Record) (next : ℕ) → readOf s at ≡ Found r next → IsThere s at r next
   is-there at r next = go (stands s at)

@@ -13,16 +13,17 @@ use native.Mathlib.Omega.{arith}
 use lib.ListN.{length, take, drop, getD, length-append, take-append-drop, drop-of-length-le}
 use lib.Seq.{take-at, drop-drop, drop-length}
 use borrow.Author.Tests.{ne-eqb}
-use Rattle.tape.specs.Form.{bytesOf}
+use Rattle.record.specs.Form.{bytesOf}
+use Rattle.record.specs.declared.Record.{Record}
+use Rattle.record.proofs.RoundTrip.{sixteen-long}
 use Rattle.tape.specs.Write.{writeCode, writeOf}
 use Rattle.tape.specs.Read.{endOf, readOf, placeOf, nextAt}
 use Rattle.tape.specs.Run.{tapeOf, writeRun, Takes, answers, foundAll}
-use Rattle.tape.specs.declared.Record.{Record}
 use Rattle.tape.specs.declared.Read.{Read}
 use Rattle.tape.specs.declared.Read.the-variants.{Found, End}
 use Rattle.tape.proofs.Writing.{accepted}
 use Rattle.tape.proofs.Reading.{read-end, Stands, stands, found, end, no-record, no-seed}
-use Rattle.tape.proofs.RoundTrip.{sixteen-long, found-there, spilled, before, later, length-kept, is-there}
+use Rattle.tape.proofs.RoundTrip.{found-there, spilled, before, later, length-kept, is-there}
 
 tape-long : (rs : List Record) → length (tapeOf rs) ≡ 16 * length rs
 tape-long [] = refl

@@ -8,9 +8,10 @@ use lib.ListN.{length, take, drop}
 use lib.Seq.{drop-drop}
 use lib.Dec.{ltb, eqb}
 use borrow.Author.Tests.{ltb-true, ltb-false, eqb-true, eqb-false, eq-eqb, ne-eqb, lt-ltb, le-ltb}
-use Rattle.tape.specs.Form.{bytesOf}
-use Rattle.tape.specs.Write.{faultOf, writeCode, writeOf}
-use Rattle.tape.specs.declared.Record.{Record}
+use Rattle.record.specs.Form.{bytesOf}
+use Rattle.record.specs.Fault.{faultOf}
+use Rattle.record.specs.declared.Record.{Record}
+use Rattle.tape.specs.Write.{writeCode, writeOf}
 
 -- room tested by a difference, which cannot wrap
 pub room-same : (n at : ℕ) → at ≤ n → ltb (n - at) 16 ≡ ltb n (at + 16)

@@ -1,4 +1,3 @@
-pub mod Form
 pub mod Write
 pub mod Read
 pub mod Run

@@ -2,10 +2,10 @@
 use Prim.Native.Nat.{ℕ, zero, suc, _+_, _<_}
 use mathlib.Core.Path.{_≡_}
 use mathlib.Core.List.{List, [], _∷_, _++_}
-use Rattle.tape.specs.declared.Record.{Record}
+use Rattle.record.specs.declared.Record.{Record}
+use Rattle.record.specs.Form.{bytesOf}
 use Rattle.tape.specs.declared.Read.{Read}
 use Rattle.tape.specs.declared.Read.the-variants.{Found, End}
-use Rattle.tape.specs.Form.{bytesOf}
 use Rattle.tape.specs.Write.{writeCode, writeOf}
 use Rattle.tape.specs.Read.{readOf, nextAt}
 

@@ -5,20 +5,9 @@ use mathlib.Core.List.{List, _++_}
 use mathlib.Core.Bool.{cond, not}
 use lib.ListN.{length, take, drop}
 use lib.Dec.{ltb, eqb}
-use Rattle.tape.specs.declared.Record.{Record}
-use Rattle.tape.specs.Form.{headerFields, commandFields, isSeed, bytesOf}
-
--- fields as a header: 0, 15 for none, 17 for a header else right whose value is no seed
-abbrev pub headerFault : Record → ℕ
-headerFault r = cond (headerFields r) (cond (isSeed (r .value)) 0 17) 15
-
--- fields as a command record: 0, or 15 for none
-abbrev pub commandFault : Record → ℕ
-commandFault r = cond (commandFields r) 0 15
-
--- fields at a place: the header stands at place 0 and only there
-unfoldable pub faultOf : ℕ → Record → ℕ
-faultOf at r = cond (eqb at 0) (headerFault r) (commandFault r)
+use Rattle.record.specs.declared.Record.{Record}
+use Rattle.record.specs.Form.{bytesOf}
+use Rattle.record.specs.Fault.{faultOf}
 
 -- The writer's checks over a buffer of n bytes, in their order: 15 (a place no multiple of 16, fields that are no record there), 17, 16; else 0.
 unfoldable pub writeCode : ℕ → ℕ → Record → ℕ

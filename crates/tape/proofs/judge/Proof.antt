@@ -4,9 +4,10 @@ use borrow.Author.Needs.{needs}
 use mathlib.Core.Path.{_≡_, ap, _∙_}
 use native.Mathlib.Omega.{arith}
 use Prim.Native.Nat.{_+_}
-use Rattle.tape.specs.declared.Record.{Record}
+use Rattle.record.specs.declared.Record.{Record}
+use Rattle.record.proofs.Faults.{bytesFault}
 use Rattle.tape.specs.declared.Read.the-variants.{Found}
-use Rattle.tape.proofs.Reading.{bytesFault, judged-not, judged-is}
+use Rattle.tape.proofs.Reading.{judged-not, judged-is}
 use Rattle.tape.proofs.judge.Statement.{statement}
 use Rattle.tape.proofs.judge.Tie as tie
 

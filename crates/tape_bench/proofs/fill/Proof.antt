@@ -6,9 +6,9 @@ use Prim.Native.Nat.{ℕ, _+_, _*_, _-_, _≤_}
 use native.Mathlib.Numerals.{add-one}
 use native.Mathlib.Omega.{arith}
 use lib.ListN.{length}
+use Rattle.record.specs.declared.Record.{Record}
 use Rattle.tape.specs.Write.{writeOf}
 use Rattle.tape.proofs.RoundTrip.{length-kept}
-use Rattle.tape.specs.declared.Record.{Record}
 use Rattle.tape_bench.specs.Pass.{filled}
 use Rattle.tape_bench.proofs.fill.Statement.{statement}
 use Rattle.tape_bench.proofs.fill.Tie as tie

@@ -1,7 +1,7 @@
--- `tape::is_marked` meets its contract, by what `byte` ensures of both bytes. Assumes nothing.
+-- `record::is_marked` meets its contract, by what `byte` ensures of both bytes. Assumes nothing.
 use borrow.Author.Needs.{needs}
-use Rattle.tape.proofs.is_marked.Statement.{statement}
-use Rattle.tape.proofs.is_marked.Tie as tie
+use Rattle.record.proofs.is_marked.Statement.{statement}
+use Rattle.record.proofs.is_marked.Tie as tie
 
 byte-requires : tie.Need-byte-requires
 byte-requires c κs = search needs

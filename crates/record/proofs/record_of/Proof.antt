@@ -1,8 +1,8 @@
--- `tape::record_of` meets its contract, field by field. Assumes nothing.
+-- `record::record_of` meets its contract, field by field. Assumes nothing.
 use borrow.Author.Needs.{needs}
-use Rattle.tape.specs.Form.{recordOf}
-use Rattle.tape.proofs.record_of.Statement.{statement}
-use Rattle.tape.proofs.record_of.Tie as tie
+use Rattle.record.specs.Form.{recordOf}
+use Rattle.record.proofs.record_of.Statement.{statement}
+use Rattle.record.proofs.record_of.Tie as tie
 
 byte-requires : tie.Need-byte-requires
 byte-requires c κs = search needs

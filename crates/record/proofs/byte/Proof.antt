@@ -1,10 +1,10 @@
--- `tape::byte` meets its contract: past the end `getD` is its default. Assumes nothing.
+-- `record::byte` meets its contract: past the end `getD` is its default. Assumes nothing.
 use borrow.Author.Needs.{needs}
 use mathlib.Core.Path.{sym}
 use native.Mathlib.Omega.{arith}
 use lib.ListN.{List·getD-eq-default}
-use Rattle.tape.proofs.byte.Statement.{statement}
-use Rattle.tape.proofs.byte.Tie as tie
+use Rattle.record.proofs.byte.Statement.{statement}
+use Rattle.record.proofs.byte.Tie as tie
 
 shared-slice-read-result : tie.Need-shared-slice-read-result
 shared-slice-read-result c = search needs

@@ -1,7 +1,7 @@
--- `tape::header_fault` meets its contract: the code is the definition, test by test. Assumes nothing.
+-- `record::header_fault` meets its contract: the code is the definition, test by test. Assumes nothing.
 use borrow.Author.Needs.{needs}
-use Rattle.tape.proofs.header_fault.Statement.{statement}
-use Rattle.tape.proofs.header_fault.Tie as tie
+use Rattle.record.proofs.header_fault.Statement.{statement}
+use Rattle.record.proofs.header_fault.Tie as tie
 
 header-fields-requires : tie.Need-header-fields-requires
 header-fields-requires c κs = search needs
@@ -16,7 +16,7 @@ choose-requires-2 : tie.Need-choose-requires-2
 choose-requires-2 c κs = search needs
 
 returns : tie.Need-returns
-returns c = cc
+returns c = rw (c .choose2 .ensures, c .before .choose .ensures, c .before .before .is-seed .ensures, c .before .before .before .header-fields .ensures)
 
 pub header-fault-spec : {M : Type 1} → statement M
 header-fault-spec =

@@ -4,7 +4,7 @@ use mathlib.Core.List.{List, [], _∷_}
 use mathlib.Core.Bool.{Bool, not, _&&_}
 use lib.ListN.{getD}
 use lib.Dec.{leb, eqb}
-use Rattle.tape.specs.declared.Record.{Record}
+use Rattle.record.specs.declared.Record.{Record}
 
 -- The ranges of the fields, each in this one place: the edition, the last op, the last code, the last task, the last seed.
 abbrev pub edition : ℕ

@@ -1,8 +1,8 @@
--- `tape::bytes_of` meets its contract: the literal is the definition, and each remainder fits a byte. Assumes nothing.
+-- `record::bytes_of` meets its contract: the literal is the definition, and each remainder fits a byte. Assumes nothing.
 use borrow.Author.Needs.{needs}
-use Rattle.tape.specs.Form.{bytesOf}
-use Rattle.tape.proofs.bytes_of.Statement.{statement}
-use Rattle.tape.proofs.bytes_of.Tie as tie
+use Rattle.record.specs.Form.{bytesOf}
+use Rattle.record.proofs.bytes_of.Statement.{statement}
+use Rattle.record.proofs.bytes_of.Tie as tie
 
 cast-t4 : tie.Need-cast-t4
 cast-t4 c = search needs

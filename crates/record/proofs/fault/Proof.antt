@@ -1,9 +1,9 @@
--- `tape::fault` meets its contract, by its two arms. Assumes nothing.
+-- `record::fault` meets its contract, by its two arms. Assumes nothing.
 use borrow.Author.Needs.{needs}
 use borrow.Author.Tests.{eq-eqb, ne-eqb}
-use Rattle.tape.specs.Write.{faultOf}
-use Rattle.tape.proofs.fault.Statement.{statement}
-use Rattle.tape.proofs.fault.Tie as tie
+use Rattle.record.specs.Fault.{faultOf}
+use Rattle.record.proofs.fault.Statement.{statement}
+use Rattle.record.proofs.fault.Tie as tie
 
 header-fault-requires : tie.Need-header-fault-requires
 header-fault-requires c κs = search needs

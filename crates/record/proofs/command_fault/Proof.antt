@@ -1,7 +1,7 @@
--- `tape::command_fault` meets its contract: the code is the definition. Assumes nothing.
+-- `record::command_fault` meets its contract: the code is the definition. Assumes nothing.
 use borrow.Author.Needs.{needs}
-use Rattle.tape.proofs.command_fault.Statement.{statement}
-use Rattle.tape.proofs.command_fault.Tie as tie
+use Rattle.record.proofs.command_fault.Statement.{statement}
+use Rattle.record.proofs.command_fault.Tie as tie
 
 command-fields-requires : tie.Need-command-fields-requires
 command-fields-requires c κs = search needs

@@ -6,7 +6,7 @@ use Prim.Native.Nat.{ℕ, _+_, _*_, _/_, _%_, _<_}
 use native.Mathlib.Nat.{div-div-eq-div-mul}
 use native.Mathlib.Omega.{arith}
 use lib.ListN.{getD}
-use Rattle.tape.specs.Form.{le8, ofLe}
+use Rattle.record.specs.Form.{le8, ofLe}
 
 digit : (x : ℕ) → x ≡ x % 256 + 256 * (x / 256)
 digit x = omega arith
