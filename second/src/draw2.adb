@@ -3,17 +3,16 @@
 --  many drawn commands as the count says.
 
 with Byte_IO;      use Byte_IO;
+with Carry_Out_Lines;
 with Command_Text; use Command_Text;
 with Generator;    use Generator;
 with Machine;      use Machine;
 
 procedure Draw2 is
 
-   Kernel : State;
-   Number : Ticks := 0;  --  the first line has none (READINGS 25)
-
    --  Fields: n op a b value code run rel clock
-   procedure Report (C : Command; Result : Answer) is
+   procedure Report
+     (Number : Ticks; C : Command; Result : Answer; Clock : Ticks) is
    begin
       Put_Numbers ((Number,
                     Ticks (C.Op),
@@ -23,7 +22,7 @@ procedure Draw2 is
                     Ticks (Result.Number),
                     Ticks (Result.Running),
                     Ticks (Result.Released),
-                    Kernel.Clock));
+                    Clock));
    end Report;
 
    --  "one line of zeros with the code"; its number is 0 too (READINGS 24)
@@ -32,19 +31,10 @@ procedure Draw2 is
       Put_Numbers ((0, 0, 0, 0, 0, Ticks (Refused), 0, 0, 0));
    end Report_Zeros;
 
-   procedure Set_Up (Bytes : String) is
-      C      : Command;
-      Form   : Code;
-      Result : Answer;
-   begin
-      Read_Command (Bytes, Form, C);
-      if Form = Bad_Line then
-         Result := (Bad_Line, Running (Kernel), Idle);
-      else
-         Step (Kernel, C, Result);
-      end if;
-      Report (C, Result);
-   end Set_Up;
+   procedure Set_Up is new Carry_Out_Lines (Report);
+
+   Kernel : State;
+   Number : Ticks := 0;  --  the first line has none (READINGS 25)
 
    procedure Draw_All (First : First_Line) is
       Seed    : Word_32 := First.Seed;
@@ -57,7 +47,7 @@ procedure Draw2 is
          pragma Assert (Refused = Accepted);  --  all of it was tested before
          Step (Kernel, C, Result);
          Number := Number + 1;
-         Report (C, Result);
+         Report (Number, C, Result, Kernel.Clock);
       end loop;
    end Draw_All;
 
@@ -79,12 +69,7 @@ begin
       return;
    end if;
    --  "then setup lines, through an accepted start, then reads no more"
-   while not Kernel.Started loop
-      Next_Line (Current, Found);
-      exit when not Found;
-      Number := Number + 1;
-      Set_Up (Text (Current));
-   end loop;
+   Set_Up (Kernel, Number, Until_Start => True);
    if Kernel.Started then
       Draw_All (First);
    else

@@ -167,10 +167,10 @@ impl Kernel {
         if !self.sound() {
             return Left { code: 1, left: 0 };
         }
-        if t.0 == 0 {
+        if t.0 == Kernel::IDLE.0 {
             return Left { code: 4, left: 0 };
         }
-        if 31 < t.0 {
+        if Kernel::LAST_TASK.0 < t.0 {
             return Left { code: 4, left: 0 };
         }
         if line::of_task(&self.base, t) == 0 {

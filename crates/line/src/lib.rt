@@ -1,5 +1,5 @@
 // Tables of 32 tasks and 8 objects, and lines of tasks in them: look up, store, place, take the front off, count, and the tests of order.
-// Each function is total: a lookup past the end is 0, a store past the end does nothing. No table goes into a call inside a loop over 32.
+// Each function is total: a lookup past the end is 0, a store past the end does nothing. No table of 32 goes into a call inside a loop over 32.
 ghost use mathlib.Core.Path.{_≡_};
 ghost use mathlib.Core.Bool.{cond};
 ghost use lib.Dec.{eqb, leb};

@@ -2,11 +2,11 @@
 -- `first-text` says, stage by stage. Assumes nothing.
 use Prim.Native.Nat.{ℕ, zero, suc, _-_, _≤_}
 use native.Mathlib.Omega.{arith}
-use mathlib.Core.Bool.{Bool, true, false, cond, _&&_}
+use mathlib.Core.Bool.{Bool, true, false, cond}
 use mathlib.Core.Path.{_≡_, refl, ap, sym, _∙_}
 use mathlib.Core.List.{List, [], _∷_, _++_, map, append-assoc, append-nil}
 use borrow.Author.Tests.{le-leb}
-use lib.Dec.{eqb, leb}
+use lib.Dec.{eqb}
 use lib.ListN.{length}
 use Rattle.rules.specs.Line.{empty}
 use Rattle.kernel.specs.declared.Kernel.{Kernel}
@@ -15,7 +15,7 @@ use Rattle.generator.specs.Public.{drawnOf}
 use Rattle.text.specs.declared.first.FirstLine.{FirstLine}
 use Rattle.text.specs.Commands.{command-of}
 use Rattle.text.specs.FirstLine.{first-line-of}
-use Rattle.text.specs.Lines.{lines, kept, joined, last-piece, held-bytes, nothing-held, cuts, holds-after, lines-of-pieces}
+use Rattle.text.specs.Lines.{lines, kept, joined, last-piece, held-bytes, nothing-held, cuts, lines-of-pieces}
 use Rattle.text.specs.Printed.{draw-header, draw-line}
 use Rattle.text.proofs.Kept.{kept-says, kept-opens}
 use Rattle.text.proofs.Theorems.{lines-whole}
@@ -23,7 +23,7 @@ use Rattle.session.specs.declared.draw.Draw.{Draw}
 use Rattle.session.specs.declared.draw.Heard.{Heard}
 use Rattle.session.specs.declared.draw.Reader.{Reader}
 use Rattle.session.specs.Told.{following, state-behind, row-for}
-use Rattle.session.specs.Draw.{zeros, starts, profile-of, spoken, draws-text, setup-text, first-text, draw-text, at-first, over-with, not-heard, opened, set-up, heard, ended, drawn-next, text-of, lines-text, lines-behind, some-text, some-behind, piece-text, piece-behind, last-heard, end-text, end-behind, printed}
+use Rattle.session.specs.Draw.{zeros, starts, profile-of, spoken, draws-text, setup-text, first-text, draw-text, at-first, over-with, not-heard, opened, set-up, heard, ended, drawn-next, text-of, lines-text, lines-behind, some-text, piece-text, piece-behind, last-heard, end-text, end-behind, printed}
 
 -- ---- lines behind lines
 

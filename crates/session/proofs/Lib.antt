@@ -1,6 +1,10 @@
 pub mod Short
 pub mod Telling
+pub mod Filling
 pub mod Feeding
 pub mod Drawing
 pub mod Theorems
 pub mod DrawWhole
+pub mod Profiles
+pub mod Accepted
+pub mod Single

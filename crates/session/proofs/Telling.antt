@@ -2,24 +2,23 @@
 use Prim.Native.Nat.{ℕ, zero, suc, _+_, _<_, _≤_}
 use native.Mathlib.Omega.{arith}
 use mathlib.Core.Bool.{Bool, true, false, cond}
-use mathlib.Core.Path.{_≡_, refl, ap, sym, _∙_}
-use mathlib.Core.List.{List, [], _∷_, _++_, append-nil}
+use mathlib.Core.Path.{_≡_, refl}
+use mathlib.Core.List.{List, [], _∷_, append-nil}
 use borrow.Author.Tests.{eq-eqb, ne-eqb, lt-ltb, le-ltb}
-use lib.Dec.{eqb, leb, ltb}
+use lib.Dec.{leb}
 use lib.ListN.{length, take}
 use Rattle.rules.specs.Line.{empty}
 use Rattle.kernel.specs.declared.Kernel.{Kernel}
 use Rattle.kernel.specs.declared.Stepped.{Stepped}
 use Rattle.kernel.specs.Public.{stepOf}
 use Rattle.text.specs.declared.command.Spoken.{Spoken}
-use Rattle.text.specs.declared.split.Held.{Held}
 use Rattle.text.specs.Buffer.{contents-after, place-after}
 use Rattle.text.specs.Commands.{command-of}
-use Rattle.text.specs.Lines.{held-bytes, last-piece}
+use Rattle.text.specs.Lines.{held-bytes}
 use Rattle.text.specs.Printed.{walk-line}
 use Rattle.session.specs.declared.tell.Told.{Told}
 use Rattle.session.specs.declared.walk.Walk.{Walk}
-use Rattle.session.specs.Told.{following, asked, running-in, state-behind, answer-to, row-for, told}
+use Rattle.session.specs.Told.{following, asked, running-in, state-behind, answer-to, told}
 use Rattle.session.specs.Walk.{walked, last-text, In-front, finished, finished-out}
 use Rattle.session.proofs.Short.{in-front, put-in-front, walk-short}
 

@@ -1,12 +1,11 @@
 -- What is promised of the programs' sessions. Assumes nothing.
 use Prim.Native.Nat.{ℕ, suc}
-use mathlib.Core.Path.{_≡_, refl, ap, sym, _∙_}
+use mathlib.Core.Path.{_≡_, refl, sym}
 use mathlib.Core.List.{List, [], _∷_, _++_, map, append-assoc}
 use lib.ListN.{length}
 use Rattle.kernel.specs.declared.Kernel.{Kernel}
-use Rattle.text.specs.declared.print.Row.{Row}
 use Rattle.text.specs.Commands.{command-of, no-command}
-use Rattle.text.specs.Lines.{lines, kept, joined, nothing-held, cuts, holds-after, lines-of-pieces}
+use Rattle.text.specs.Lines.{kept, joined, cuts, holds-after, lines-of-pieces}
 use Rattle.text.specs.Printed.{walk-header}
 use Rattle.text.proofs.Kept.{kept-says}
 use Rattle.text.proofs.Theorems.{lines-whole}

@@ -9,7 +9,7 @@ use text::print::put_walk_line;
 use text::split::Held;
 use text::split::held_command;
 use text::split::held_none;
-use text::split::next_line;
+use text::split::next_command;
 
 // Where a walk stands: the state, what is held of a line that has begun, and how many lines there were.
 pub struct Walk {
@@ -54,7 +54,7 @@ pub fn feed(w: Walk, piece: &[u8], out: &mut [u8]) -> Fed
     let mut at = 0;
     let mut left = piece.len() + 1;
     while left > 0 {
-        let c = next_line(held, piece, from);
+        let c = next_command(held, piece, from);
         held = c.held;
         if !c.whole {
             return Fed {
@@ -63,10 +63,9 @@ pub fn feed(w: Walk, piece: &[u8], out: &mut [u8]) -> Fed
             };
         }
         n = following(n);
-        let t = tell(kernel, n, held_command(held));
+        let t = tell(kernel, n, c.said);
         kernel = t.kernel;
         at = put_walk_line(out, at, t.row);
-        held = held_none();
         from = c.next;
         left -= 1;
     }

@@ -13,3 +13,4 @@ pub mod Telling
 pub mod Bounds
 pub mod Examples
 pub mod Theorems
+pub mod Single

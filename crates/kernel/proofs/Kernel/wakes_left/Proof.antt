@@ -21,16 +21,16 @@ returns c =
 
 returns-2 : tie.Need-returns-2
 returns-2 c =
-    let k = c .before .before .before .before .args .t1 in
-    let t = c .before .before .before .before .args .t .0 in
-    let e : isSound k ≡ true = sym (c .before .before .before .sound .ensures) ∙ not-false _ (c .before .before .if1 .left) in
+    let k = c .before .before .before .before .before .args .t1 in
+    let t = c .before .before .before .before .before .args .t .0 in
+    let e : isSound k ≡ true = sym (c .before .before .before .before .sound .ensures) ∙ not-false _ (c .before .before .before .if1 .left) in
     asked-idle k t e (c .if2 .taken)
 
 returns-3 : tie.Need-returns-3
 returns-3 c =
-    let k = c .before .before .before .before .before .before .args .t1 in
-    let t = c .before .before .before .before .before .before .args .t .0 in
-    let e : isSound k ≡ true = sym (c .before .before .before .before .before .sound .ensures) ∙ not-false _ (c .before .before .before .before .if1 .left) in
+    let k = c .before .before .before .before .before .before .before .before .args .t1 in
+    let t = c .before .before .before .before .before .before .before .before .args .t .0 in
+    let e : isSound k ≡ true = sym (c .before .before .before .before .before .before .before .sound .ensures) ∙ not-false _ (c .before .before .before .before .before .before .if1 .left) in
     asked-past k t e (c .if3 .taken)
 
 of-task-requires : tie.Need-of-task-requires
@@ -38,10 +38,10 @@ of-task-requires c κs = search needs
 
 returns-4 : tie.Need-returns-4
 returns-4 c =
-    let k = c .before .before .before .before .before .before .before .before .before .before .args .t1 in
-    let t = c .before .before .before .before .before .before .before .before .before .before .args .t .0 in
-    let e : isSound k ≡ true = sym (c .before .before .before .before .before .before .before .before .before .sound .ensures) ∙ not-false _ (c .before .before .before .before .before .before .before .before .if1 .left) in
-    asked-missing k t e (c .before .before .before .before .before .before .if2 .left) (c .before .before .before .before .if3 .left) (sym (c .before .of-task .ensures) ∙ c .if4 .taken)
+    let k = c .before .before .before .before .before .before .before .before .before .before .before .before .args .t1 in
+    let t = c .before .before .before .before .before .before .before .before .before .before .before .before .args .t .0 in
+    let e : isSound k ≡ true = sym (c .before .before .before .before .before .before .before .before .before .before .before .sound .ensures) ∙ not-false _ (c .before .before .before .before .before .before .before .before .before .before .if1 .left) in
+    asked-missing k t e (c .before .before .before .before .before .before .before .if2 .left) (c .before .before .before .before .if3 .left) (sym (c .before .of-task .ensures) ∙ c .if4 .taken)
 
 lead-task-requires : tie.Need-lead-task-requires
 lead-task-requires c κs = search needs
@@ -54,10 +54,10 @@ due-count-requires c κs = search needs
 
 returns-5 : tie.Need-returns-5
 returns-5 c =
-    let k = c .before .before .before .before .before .before .before .before .before .before .before .before .before .before .before .before .args .t1 in
-    let t = c .before .before .before .before .before .before .before .before .before .before .before .before .before .before .before .before .args .t .0 in
-    let e : isSound k ≡ true = sym (c .before .before .before .before .before .before .before .before .before .before .before .before .before .before .before .sound .ensures) ∙ not-false _ (c .before .before .before .before .before .before .before .before .before .before .before .before .before .before .if1 .left) in
-    rw (c .due-count .ensures, c .before .time-of .ensures, c .before .before .before .before .lead-task .ensures) (asked-count k t e (c .before .before .before .before .before .before .before .before .before .before .before .before .if2 .left) (c .before .before .before .before .before .before .before .before .before .before .if3 .left) (λ z. c .before .before .before .before .before .before .if4 .left (c .before .before .before .before .before .before .before .of-task .ensures ∙ z)))
+    let k = c .before .before .before .before .before .before .before .before .before .before .before .before .before .before .before .before .before .before .args .t1 in
+    let t = c .before .before .before .before .before .before .before .before .before .before .before .before .before .before .before .before .before .before .args .t .0 in
+    let e : isSound k ≡ true = sym (c .before .before .before .before .before .before .before .before .before .before .before .before .before .before .before .before .before .sound .ensures) ∙ not-false _ (c .before .before .before .before .before .before .before .before .before .before .before .before .before .before .before .before .if1 .left) in
+    rw (c .due-count .ensures, c .before .time-of .ensures, c .before .before .before .before .lead-task .ensures) (asked-count k t e (c .before .before .before .before .before .before .before .before .before .before .before .before .before .if2 .left) (c .before .before .before .before .before .before .before .before .before .before .if3 .left) (λ z. c .before .before .before .before .before .before .if4 .left (c .before .before .before .before .before .before .before .of-task .ensures ∙ z)))
 
 pub wakes-left-spec : {M : Type 1} → statement M
 wakes-left-spec =

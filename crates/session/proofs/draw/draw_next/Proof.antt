@@ -1,5 +1,5 @@
 -- `session::draw::draw_next` meets its contract: nothing is drawn, or one command. Assumes nothing.
-use Prim.Native.Nat.{_<_, _≤_}
+use Prim.Native.Nat.{_<_}
 use native.Mathlib.Omega.{arith}
 use borrow.Author.Tests.{eq-eqb, ne-eqb, lt-leb}
 use Rattle.session.specs.Draw.{drawn-next}

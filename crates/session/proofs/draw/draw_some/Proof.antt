@@ -1,5 +1,5 @@
 -- `session::draw::draw_some` meets its contract: proofs/Drawing has the invariant, and what a turn and each way out do. Assumes nothing.
-use Prim.Native.Nat.{ℕ, _+_, _-_, _*_, _<_, _≤_}
+use Prim.Native.Nat.{_*_, _≤_}
 use native.Mathlib.Omega.{arith}
 use lib.ListN.{length}
 use Rattle.session.proofs.Drawing.{Going, going-first, going-again, all-drawn, no-room-for}
@@ -46,7 +46,7 @@ loop-again c =
     )
 
 same-length : tie.Need-same-length Inv-loop μ-loop
-same-length c = c .before .loop .inv .0 .size
+same-length c = c .before .loop .inv .0 .filling .size
 
 returns-2 : tie.Need-returns-2 Inv-loop μ-loop
 returns-2 c =

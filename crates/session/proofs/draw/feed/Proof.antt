@@ -1,5 +1,5 @@
 -- `session::draw::feed` meets its contract: proofs/Drawing has the invariant, and what a turn and each way out do. Assumes nothing.
-use Prim.Native.Nat.{ℕ, suc, _+_, _-_, _*_, _<_, _≤_}
+use Prim.Native.Nat.{suc, _*_, _≤_}
 use native.Mathlib.Numerals.{add-one}
 use native.Mathlib.Omega.{arith}
 use borrow.Author.Tests.{not-true, not-false}
@@ -34,7 +34,7 @@ next-line-requires : tie.Need-next-line-requires Inv-loop μ-loop
 next-line-requires c κs = search needs
 
 same-length : tie.Need-same-length Inv-loop μ-loop
-same-length c = c .before .before .before .before .before .loop .inv .0 .size
+same-length c = c .before .before .before .before .before .loop .inv .0 .filling .size
 
 returns-2 : tie.Need-returns-2 Inv-loop μ-loop
 returns-2 c =
@@ -76,7 +76,7 @@ loop-again c =
     )
 
 same-length-2 : tie.Need-same-length-2 Inv-loop μ-loop
-same-length-2 c = c .before .loop .inv .0 .size
+same-length-2 c = c .before .loop .inv .0 .filling .size
 
 returns-3 : tie.Need-returns-3 Inv-loop μ-loop
 returns-3 c =

@@ -1,6 +1,4 @@
 -- `session::draw::finish` meets its contract: no room for two lines, or both are put. Assumes nothing.
-use Prim.Native.Nat.{_+_, _≤_}
-use native.Mathlib.Omega.{arith}
 use Rattle.session.proofs.Drawing.{no-room-for-two, both-put}
 use borrow.Author.Needs.{needs}
 use Rattle.session.proofs.draw.finish.Statement.{statement}

@@ -1,0 +1,174 @@
+#!/usr/bin/env python3
+"""Makes the stored inputs of crates/session_cases and, by the second program, what must be printed for them.
+
+    python3 tools/session_cases.py            write crates/session_cases/data/NN.walk, NN.draw and crates/session_cases/stdout
+    python3 tools/session_cases.py --check    compare them with what is stored; exit status 1 on a difference
+
+The inputs are the odd ones below and some of second/bin/make_input, by their numbers; what is printed for them is what second/bin/walk2 and draw2
+print. second/build makes these three. The cases together must reach all that `reached` names, else nothing is written.
+"""
+import pathlib
+import subprocess
+import sys
+
+ROOT = pathlib.Path(__file__).resolve().parent.parent
+SECOND = ROOT / 'second' / 'bin'
+CRATE = ROOT / 'crates' / 'session_cases'
+CLOCK = 2**64 - 1
+
+# Numbers of make_input. The first of each were chosen so that every refusal of every op that some input shows is among them; the others for variety.
+MADE = {
+    'walk': (81, 294, 113, 102, 3, 284, 392, 12, 199, 10, 117, 249, 285, 141, 104, 1, 9, 11, 13, 19, 26, 35, 43, 53),
+    'draw': (25, 96, 230, 242, 234, 86, 48, 200, 122, 165, 307, 2, 3, 5, 6, 7, 8, 9, 12, 21, 24, 26, 32, 40, 50, 53),
+}
+
+
+# ---- The odd inputs
+
+def text(*lines):
+    return '\n'.join(lines + ('',)).encode('latin-1')
+
+
+def walks():
+    document = text('create 1 3', 'create 2 5', 'create 3 3', 'object 1 4', 'start', 'delay 10', 'open 1', 'advance 10', 'wake', 'open 1', 'delay 20',
+                    'closep 1 1', 'entry 1 0', 'entry 1 0', 'open 1', 'closep 1 1')
+    yield document
+    yield document[:-1]                                  # a last line without a line end counts
+    yield b''                                            # no input at all
+    yield b'\n'                                          # one empty line
+    yield b'\n\nstart\n\nadvance 7'
+    # bytes that are ordinary, and blanks that are no single blanks
+    yield text('start\r', 'start\0', '\xffstart', '\r', '\0', '\xff', '\t', ' start', 'start ', 'advance  1', 'advance\t1', 'Start', 'start', 'wake\r', 'wake')
+    # decimals, and operands too few, too many, too large
+    yield text('create 255 3', 'create 256 3', 'create 01 3', 'create 1 00', 'create +1 3', 'create -1 3', 'create  3', 'create 1', 'create 1 3 0', 'create 1 3',
+               'object 8 4', 'object 1 255', 'object 1 256', 'object 1 4', 'start 0', 'start', 'wake 0', 'open', 'open 0', 'entry 1 2', 'entry 1 256', 'closep 1 1',
+               f'advance {CLOCK + 1}', 'advance 99999999999999999999', 'advance 100000000000000000000', 'advance', 'advance 1')
+    # lines of 64 bytes, of 65 and of many more are each one line; what stands behind 64 or 129 of its bytes is no line of its own
+    yield text('start', *('advance ' + '0' * n for n in (55, 56, 57, 120, 121, 122, 4088, 9000)), 'x' * 64 + 'advance 1', 'x' * 129 + 'advance 1', 'advance 2')
+    # the end of the clock
+    yield text('create 1 1', 'start', f'advance {CLOCK - 1}', 'advance 2', f'delay {CLOCK}', 'wake', 'advance 1', 'advance 1', 'advance 0', 'wake', f'delay {CLOCK}',
+               f'advance {CLOCK}', f'delay {CLOCK + 1}')
+    # 31 tasks asleep, in ties of time and priority, and woken
+    tasks = range(1, 32)
+    yield text(*(f'create {i} {i % 15 + 1}' for i in tasks), 'create 32 1', 'create 31 1', 'start', *(f'delay {i % 4 + 3}' for i in tasks), 'delay 9', 'wake',
+               *(['advance 2'] + ['wake'] * 10) * 4)
+
+
+def first(seed='1', span='100', weights='10 10 10 10 10 10 10 10', count='3'):
+    return f'seed {seed} span {span} weights {weights} count {count}'
+
+
+def first_lines():
+    """Bad first lines, by the number that document 01 gives them."""
+    return {
+        14: [
+            '', ' ', 'seed', first() + ' ', ' ' + first(), first().upper(), first()[5:], first(seed=''), first(seed=' 1'), first(span=''), first(span='4294967296'),
+            first(span='01'), first(span='-1'), first(weights='10 10 10 10 10 10 10'), first(weights='10 10 10 10 10 10 10 10 10'),
+            first(weights='10 10 10 10 10 10 10 4294967296'), first(weights='10 10 10 10 10 10 10 00'), first(count='0'), first(count='100001'), first(count='03'),
+            first(count=''), first() + ' 1', first() + '\r', first(seed='7' * 75), 'x' * 129, 'x' * 3000, first(seed='0', span='0', count='0'),
+        ],
+        17: [  # the seed's word
+            first(seed='0'), first(seed='-1647531835'), first(seed='4294967296'), first(seed='01'), first(seed='x'), first(seed='1\r'), first(seed='\0'), first(seed='\xff'),
+            first(seed='12345678901'), first(seed='7' * 74), first(seed='0', span='0', weights='101 0 0 0 0 0 0 0'),
+        ],
+        18: [
+            first(span='0'), first(span='1000001'), first(span='4294967295'), first(weights='101 10 10 10 10 10 10 10'), first(weights='10 10 10 10 10 10 10 101'),
+            first(weights='10 0 10 10 10 10 10 10'),
+        ],
+    }
+
+
+def draws():
+    setup = ('create 1 3', 'create 2 5', 'create 3 3', 'object 1 4', 'start')
+    yield text(first(count='1'), *setup)                                         # document 01's case
+    yield text(first(), *setup)[:-1]                                             # the start is the last line, without a line end
+    yield text(first(), *setup, 'create 4 1', 'advance 5')                       # behind an accepted start no line is read
+    yield text(first(), 'wake', '', 'creat 1 2', 'create 99 1', *setup)          # refused and malformed setup lines count
+    for lines in first_lines().values():
+        for line in lines:
+            yield text(line, *setup)
+    # the largest that is fair, and no start
+    yield text(first(seed='4294967295', span='1000000', weights='100 100 100 100 100 100 100 100', count='100000'))
+
+
+# ---- What they reach
+
+def reached(kind, given, printed):
+    """The names of what an input and its output show."""
+    rows = [line.split() for line in printed.decode().split('\n')[1:-1]]
+    code = 2 if kind == 'walk' else 5
+    found = {f'op {row[1]} code {row[code]}' for row in rows} | {f'byte {b}' for b in (0, 13, 255) if bytes([b]) in given}
+    lines = given.split(b'\n')
+    tests = {
+        'no input': not given,
+        'no last line end': given and lines[-1],
+        'a line over 64 bytes': any(len(line) > 64 for line in lines),
+        'a line over 4096 bytes': any(len(line) > 4096 for line in lines),
+        '31 tasks': sum(row[1] == '1' and row[code] == '0' for row in rows) == 31,
+        'the last tick': any(row[-1] == str(CLOCK) for row in rows),
+    }
+    return {f'{kind}: {name}' for name in found} | {f'{kind}: {name}' for name, seen in tests.items() if seen}
+
+
+def wanted():
+    refusals = {1: (0, 3, 4, 5), 2: (0, 3, 4, 5), 3: (0, 3), 4: (0, 2, 7, 8), 5: (0, 2), 6: (0, 2, 13), 7: (0, 2, 4, 6, 7, 8, 10), 8: (0, 2, 4, 6, 7, 9),
+                9: (0, 2, 4, 6, 7, 9), 10: (0, 2, 4, 6, 7, 8, 10, 12), 11: (0, 2, 4, 6, 7, 9), 0: (14,)}
+    names = {f'walk: op {op} code {code}' for op, codes in refusals.items() for code in codes}
+    names |= {f'draw: op {op} code 0' for op in range(1, 12)} | {f'draw: op 0 code {code}' for code in (2, 14, 17, 18)}
+    ends = ['no input', 'no last line end', 'a line over 64 bytes', '31 tasks', 'byte 0', 'byte 13', 'byte 255']
+    return names | {f'{kind}: {end}' for kind in ('walk', 'draw') for end in ends} | {'walk: a line over 4096 bytes', 'walk: the last tick'}
+
+
+# ---- The files
+
+def run(program, *args, given=b''):
+    path = SECOND / program
+    if not path.exists():
+        sys.exit(f'session_cases: {path.relative_to(ROOT)} is not there; run second/build first')
+    return subprocess.run([path, *args], input=given, stdout=subprocess.PIPE, check=True).stdout
+
+
+def test_first_lines():
+    """The second program too must give each the number by which it stands here."""
+    for number, lines in first_lines().items():
+        for line in lines:
+            said = run('draw2', given=text(line)).split(b'\n')[1]
+            if said != b'0 0 0 0 0 %d 0 0 0' % number:
+                sys.exit(f'session_cases: the second program says {said.decode()} of the first line {line!r}, which is to be {number}')
+
+
+def made():
+    test_first_lines()
+    files, printed, seen = {}, {}, set()
+    for kind, odd in (('walk', walks()), ('draw', draws())):
+        inputs = list(odd) + [run('make_input', kind, str(number)) for number in MADE[kind]]
+        for i, given in enumerate(inputs):
+            name = f'{i:02}.{kind}'
+            files[CRATE / 'data' / name] = given
+            said = run(kind + '2', given=given)
+            seen |= reached(kind, given, said)
+            printed[i, kind != 'walk'] = b'file ' + name.encode() + b'\n' + said
+    missing = wanted() - seen
+    if missing:
+        sys.exit('session_cases: no input reaches ' + ', '.join(sorted(missing)))
+    files[CRATE / 'stdout'] = b''.join(printed[key] for key in sorted(printed))
+    return files
+
+
+def main():
+    files = made()
+    said = f'session_cases: {len(files) - 1} inputs, {sum(map(len, files.values()))} bytes in all'
+    if '--check' in sys.argv[1:]:
+        stored = set((CRATE / 'data').iterdir()) | {CRATE / 'stdout'}
+        wrong = [str(p.relative_to(ROOT)) for p in sorted(stored | set(files)) if p not in files or p not in stored or p.read_bytes() != files[p]]
+        if wrong:
+            sys.exit('session_cases: not as the second program makes it: ' + ' '.join(wrong))
+        print(said + ', as stored')
+        return
+    (CRATE / 'data').mkdir(exist_ok=True)
+    for path, data in files.items():
+        path.write_bytes(data)
+    print(said)
+
+
+main()
