@@ -9,3 +9,4 @@ pub mod Marks
 pub mod Tested
 pub mod Question
 pub mod Ends
+pub mod Single

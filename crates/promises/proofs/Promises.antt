@@ -19,8 +19,6 @@ use Rattle.rules.proofs.Step.{next-sound, run-sound, fresh-sound}
 use Rattle.rules.proofs.Wakes.{a-wake, keeps-its-turn, at-wake, question-left, left-question, wakes-in-row, row-of-wakes}
 use Rattle.rules.proofs.Theorems as rules
 use Rattle.kernel.specs.declared.Kernel.{Kernel}
-use Rattle.kernel.specs.declared.Stepped.{Stepped}
-use Rattle.kernel.specs.declared.Left.{Left}
 use Rattle.kernel.specs.declared.command.Command.{Command}
 use Rattle.kernel.specs.View.{view, encode}
 use Rattle.kernel.specs.Public.{isSound, said, report, shape, stepOf, leftOf}
@@ -203,15 +201,3 @@ idle-does-not-run before c after = rw (run-from-fresh before, step-on (behind be
     let n = next (behind before) (said c) in
     let s = next-sound (behind before) (behind-sound before) (said c) in
     rules.idle-does-not-run (map said before) (said c) (map said after) z (never-ran n s (released (behind before) (said c)) after ks) (sym (running-behind n s after) ∙ e))
-
--- ## No second answer
--- A contract that is one equation leaves nothing to choose: whatever else meets it is the same answer. Of the kernel's functions each is
--- one, and so is each of `line`'s.
-pub no-second-answer : {A : Type 0} (said a b : A) → a ≡ said → b ≡ said → a ≡ b
-no-second-answer said a b x y = x ∙ sym y
-
-pub one-step : (k : Kernel) (c : Command) (a b : Stepped) → a ≡ stepped k c → b ≡ stepped k c → a ≡ b
-one-step k c a b x y = no-second-answer (stepped k c) a b x y
-
-pub one-count : (k : Kernel) (t : ℕ) (a b : Left) → a ≡ leftOf k t → b ≡ leftOf k t → a ≡ b
-one-count k t a b x y = no-second-answer (leftOf k t) a b x y
