@@ -1,8 +1,8 @@
 /*
  * A hostile host: a million calls with images of every length 0..1025, random bytes, single spoilt bytes of good images, states that no
- * command leads to, operands of every width, seeds and profiles good and bad, at every entry point. Each answer and every byte afterwards are
- * held to judge.h; the bytes stand between guard bytes, at any alignment, and what else is lent between guards too. The seed is fixed, so that
- * a run that fails once fails again. Prints one line of counts by code.
+ * command leads to, null where the length is 0, operands of every width, seeds and profiles good and bad, at every entry point. Each answer
+ * and every byte afterwards are held to judge.h; the bytes stand between guard bytes, at any alignment, and what else is lent between guards
+ * too. The seed is fixed, so that a run that fails once fails again. Prints one line of counts by code.
  */
 #include <inttypes.h>
 #include <stdio.h>
@@ -110,20 +110,20 @@ static void try_left(uint8_t *image, size_t length, uint64_t task)
     judge("wakes left", length, rvn_wakes_left(image, length, task), want);
 }
 
-/* The seed and the weights are in `lent` already. */
-static struct draft try_draw(uint8_t *image, size_t length, uint64_t span, size_t count)
+/* The seed is in `lent` already, and so are the weights, unless they are null. */
+static struct draft try_draw(uint8_t *image, size_t length, uint64_t span, const uint32_t *weights, size_t count)
 {
     struct machine m;
     struct draft want = {1, 0, 0, 0, 0, lent.seed[1]};
     memcpy(&left, &lent, sizeof left);
     if (read_image(&m, image, length))
-        want = drawn(&m, lent.seed[1], span, lent.weights + 1, count);
+        want = drawn(&m, lent.seed[1], span, weights, count);
     if (want.code == 0) {
         left.value[1] = want.value;
         drawn_ops[want.op]++;
     }
     left.seed[1] = want.seed;
-    judge_packed("draw", length, rvn_draw(image, length, &lent.seed[1], span, lent.weights + 1, count, &lent.value[1]),
+    judge_packed("draw", length, rvn_draw(image, length, &lent.seed[1], span, weights, count, &lent.value[1]),
                  (uint32_t)(want.code + 256 * want.op + 65536 * want.a + 16777216 * want.b));
     if (memcmp(&lent, &left, sizeof left) != 0) {
         printf("call %lu, draw of %zu bytes: another seed, weights or value than expected\n", calls, length);
@@ -192,7 +192,7 @@ static struct draft draw_somehow(uint8_t *image, size_t length)
         lent.weights[1 + below(RVN_WEIGHTS)] = one_in(2) ? 101 : (uint32_t)draw();
     if (one_in(40))
         lent.seed[1] = 0;
-    return try_draw(image, length, span, count);
+    return try_draw(image, length, span, lent.weights + 1, count);
 }
 
 /* What is drawn is accepted, as it was drawn. */
@@ -260,9 +260,40 @@ static void forge(uint8_t *image)
     write_image(&m, image);
 }
 
+/* Null for each image and for the weights, which the header allows where the length is 0. */
+static void call_with_null(void)
+{
+    uint8_t bytes[512];
+    try_step(NULL, 0, RVN_WAKE, 0, 0, 0);
+    try_fresh(NULL, 0);
+    try_left(NULL, 0, 1);
+    lent.seed[1] = 1;
+    try_draw(NULL, 0, 100, NULL, 0);
+    forge(bytes);
+    try_draw(lend(bytes, 512), 512, 100, NULL, 0);
+}
+
+/* 1 if every code of these functions was answered and every kind drawn; else it says which was not. */
+static int all_met(void)
+{
+    int met = 1;
+    for (unsigned code = 0; code < 19; code++)
+        if ((code < 14 || code > 16) && counts[code] == 0) {
+            printf("code %u was never answered\n", code);
+            met = 0;
+        }
+    for (unsigned op = 4; op < 12; op++)
+        if (drawn_ops[op] == 0) {
+            printf("op %u was never drawn\n", op);
+            met = 0;
+        }
+    return met;
+}
+
 int main(void)
 {
     uint8_t bytes[LONGEST];
+    call_with_null();
     /* every length, with random bytes and with a good image that is cut or continued */
     for (size_t length = 0; length <= LONGEST; length++) {
         memset(bytes, 0, sizeof bytes);
@@ -310,7 +341,7 @@ int main(void)
             image = lend(good, 512);
             if (one_in(2000))
                 try_fresh(image, 512);
-            else if (one_in(4))
+            else if (one_in(4) && calls + 2 <= CALLS) /* it makes two calls */
                 draw_and_step(image);
             else
                 step_somehow(image, 512);
@@ -318,15 +349,10 @@ int main(void)
         }
     }
     /* text and tape have the codes 14 to 16 */
-    int met = 1;
     printf("%lu calls, by code:", calls);
     for (unsigned code = 0; code < 19; code++)
-        if (code < 14 || code > 16) {
+        if (code < 14 || code > 16)
             printf(" %u:%lu", code, counts[code]);
-            met = met && counts[code] != 0;
-        }
     printf("\n");
-    for (unsigned op = 4; op < 12; op++)
-        met = met && drawn_ops[op] != 0;
-    return !met;
+    return !all_met();
 }

@@ -9,8 +9,8 @@ out=$root/target/host
 lib=$root/target/staticlib/libimage.a
 fail() { echo "host/run.sh: $*" >&2; exit 2; }
 case $(uname -m) in
-x86_64) cc=${CC:-gcc} nm=${NM:-nm} run='' packages='gcc libc6-dev binutils' ;;
-aarch64) cc=${CC:-x86_64-linux-gnu-gcc} nm=${NM:-x86_64-linux-gnu-nm} packages='gcc-x86-64-linux-gnu libc6-dev-amd64-cross binutils-x86-64-linux-gnu' ;;
+x86_64) cc=${CC:-gcc} nm=${NM:-nm} run='' packages='gcc libc6-dev binutils' plus=g++ ;;
+aarch64) cc=${CC:-x86_64-linux-gnu-gcc} nm=${NM:-x86_64-linux-gnu-nm} packages='gcc-x86-64-linux-gnu libc6-dev-amd64-cross binutils-x86-64-linux-gnu' plus=g++-x86-64-linux-gnu ;;
 *) fail "no host for a $(uname -m): the library is for x86-64, and runs there or, under the toolchain's emulator, on aarch64" ;;
 esac
 command -v rt >/dev/null || fail "no command rt: it builds the static library. Put the folder bin/ of the Rattle toolchain on PATH"
@@ -47,5 +47,7 @@ diff "$here/hostile.stdout" "$out/hostile.stdout" >&2 || fail "the hostile host 
 # The header is also C++, where there is a compiler.
 if echo 'int main(){}' | $cc -x c++ -fsyntax-only - 2>/dev/null; then
     echo '#include "rvn_image.h"' | $cc -x c++ -std=c++98 -Wall -Wextra -Werror -Wno-long-long -fsyntax-only -I"$here" -
+else
+    echo "host/run.sh: host/rvn_image.h was not tried as C++: $cc compiles none. On Debian: apt-get install $plus" >&2
 fi
 echo "host: walk and draw on an image print what the programs print; $(cat "$out/hostile.stdout"); exported: $(tr '\n' ' ' <"$out/exported")"

@@ -38,14 +38,14 @@ extern "C" {
 #define RVN_WAKE 5     /* the first delay entry, if it is due, becomes ready and is the released task */
 #define RVN_ADVANCE 6  /* value = ticks: the clock grows by that much */
 #define RVN_OPEN 7     /* a = object: the runner holds it, for a procedure or function */
-#define RVN_CLOSEP 8   /* a = object, b = barrier 0 or 1: ends a procedure; with 1 a waiting task is released */
-#define RVN_CLOSEF 9   /* a = object: ends a function */
+#define RVN_CLOSEP 8   /* a = object, b = barrier 0 or 1: ends an open, as 9 does; with 1 a waiting task is released */
+#define RVN_CLOSEF 9   /* a = object: ends an open, as 8 with barrier 0 does */
 #define RVN_ENTRY 10   /* a = object, b = barrier: 1, the runner holds it, for an entry; 0, the runner waits on it */
 #define RVN_DONE 11    /* a = object: ends an entry */
 
 /* Codes: 0, or the number of the refusal. Of several that hold, the answer is the first in the order 1, 4, 2 or 3, then 5 to 13; of a
  * draw in the order 1, 17, 18, 2. */
-#define RVN_ACCEPTED 0
+#define RVN_ACCEPTED 0 /* no refusal: the call did what it is for */
 #define RVN_SHAPE 1    /* the image is not 512 bytes, or holds no sound state: running and released are 0 */
 #define RVN_EARLY 2    /* ops 4..11 or a draw before start */
 #define RVN_LATE 3     /* ops 1..3 after start */
@@ -59,6 +59,7 @@ extern "C" {
 #define RVN_HELD 11    /* another task holds the object */
 #define RVN_QUEUE 12   /* an entry with barrier 0 while a task waits there */
 #define RVN_CLOCK 13   /* an advance past 2^64-1 */
+/* 14 (Line) is of text, 15 (Record) and 16 (Room) are of the tape: no function here answers them. */
 #define RVN_SEED 17    /* a draw from seed 0 */
 #define RVN_PROFILE 18 /* of a draw: not eight weights, a weight above 100, wake's weight 0, or a span not 1..1000000 */
 
