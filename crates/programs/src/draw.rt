@@ -1,4 +1,5 @@
 // The program draw: reads its first line and setup lines, then draws commands, and prints a line for each.
+ghost use mathlib.Core.Path.{_≡_};
 use crate::write;
 use session::draw::Draw;
 use session::draw::Reader;
@@ -84,7 +85,10 @@ fn draw_all(fd: i32, out: &mut [u8]) {
     all_draws(d, out);
 }
 
-pub fn run(fd: i32) {
+// It answers nothing: what it reads and writes no contract can say; what it writes of the bytes read is session's.
+pub fn run(fd: i32)
+    ensures { λ r. ⌜ r ≡ tt ⌝ }
+{
     let mut out = [0u8; 196800];
     draw_all(fd, &mut out);
 }

@@ -1,4 +1,5 @@
 // The program walk: reads commands, one to a line, and prints a line for each.
+ghost use mathlib.Core.Path.{_≡_};
 use crate::write;
 use session::walk::Walk;
 use session::walk::begin;
@@ -52,7 +53,10 @@ fn walk_all(fd: i32, out: &mut [u8]) {
     write(&out[..last]);
 }
 
-pub fn run(fd: i32) {
+// It answers nothing: what it reads and writes no contract can say; what it writes of the bytes read is session's.
+pub fn run(fd: i32)
+    ensures { λ r. ⌜ r ≡ tt ⌝ }
+{
     let mut out = [0u8; 524416];
     walk_all(fd, &mut out);
 }
