@@ -34,7 +34,7 @@ extern "C" {
 #define RVN_CREATE 1   /* a = task, b = priority: created, placed at the tail of its base */
 #define RVN_OBJECT 2   /* a = object, b = ceiling: declared */
 #define RVN_START 3    /* the front of the ready line runs */
-#define RVN_DELAY 4    /* value = time: into the delay line, or, if the time has passed, a yield */
+#define RVN_DELAY 4    /* value = time: into the delay line, or, if the time is not above the clock, a yield */
 #define RVN_WAKE 5     /* the first delay entry, if it is due, becomes ready and is the released task */
 #define RVN_ADVANCE 6  /* value = ticks: the clock grows by that much */
 #define RVN_OPEN 7     /* a = object: the runner holds it, for a procedure or function */

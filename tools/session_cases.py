@@ -156,6 +156,8 @@ def made():
 
 
 def main():
+    if sys.argv[1:] not in ([], ['--check']):
+        sys.exit(__doc__)
     files = made()
     said = f'session_cases: {len(files) - 1} inputs, {sum(map(len, files.values()))} bytes in all'
     if '--check' in sys.argv[1:]:

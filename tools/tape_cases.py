@@ -178,6 +178,8 @@ def writes(f):
 
 
 def main():
+    if sys.argv[1:] not in ([], ['--check']):
+        sys.exit(__doc__)
     crate = pathlib.Path(__file__).resolve().parent.parent / 'crates' / 'tape_cases'
     files, lines = {}, []
     for n, make in enumerate((cuts, headers, records, places, writes)):
@@ -192,7 +194,7 @@ def main():
         stored = {p for p in (crate / 'data').iterdir()} | {crate / 'stdout'}
         wrong = [str(p) for p in sorted(stored | set(files)) if p not in files or p not in stored or p.read_bytes() != files[p]]
         if wrong:
-            sys.exit('not as tools/tape_cases.py makes it: ' + ' '.join(wrong))
+            sys.exit('tape_cases: not as tools/tape_cases.py makes it: ' + ' '.join(wrong))
         print(f'tape_cases: {len(lines)} lines, as stored')
         return
     (crate / 'data').mkdir(exist_ok=True)

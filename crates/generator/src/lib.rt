@@ -244,7 +244,7 @@ fn delay_time(clock: u64, span: u32, d2: u32) -> u64
     }
 }
 
-// Those of an advance.
+// The ticks of an advance.
 fn ticks(span: u32, d2: u32) -> u64
     ensures { λ r. ⌜ r ≡ 1 + d2 % span ⌝ }
 {

@@ -1,5 +1,5 @@
 // Draws on good and bad input, all of it against all: each row has a state, a seed, a span and the weights of delay and wake, and then what
-// `generator::draw` answers. document 01's order of a draw's checks is 1, 17, 18, 2; a refused draw draws nothing and leaves the seed.
+// `generator::draw` answers. Document 01's order of a draw's checks is 1, 17, 18, 2; a refused draw draws nothing and leaves the seed.
 use generator::Drawn;
 use generator::Profile;
 use kernel::Command;

@@ -99,7 +99,7 @@ all-index P d [] f = tt
 all-index P d (x ∷ l) f = (f 0 (omega arith), all-index P d l (λ i h. f (suc i) (omega arith)))
 
 module _ (m : Machine) (s : Sound m) where
-  -- idle is ready, and so neither delayed nor nobody-or
+  -- idle is ready, and so neither delayed nor waiting
   pub not-idle : (t : ℕ) → 1 ≤ count t (tasks (m .delay)) + waits t (m .queue) → t ≢ 0
   not-idle t h e = let z : 1 ≤ count 0 (tasks (m .delay)) + waits 0 (m .queue) = rw e at h in omega (arith, once m s 0, s .idle-there)
 

@@ -1,4 +1,4 @@
-// The kernel by value: its tables, the test of a saved state, the step, and the question "Wakes left".
+// The kernel by value: its tables, the step, and the question "Wakes left". (The test of a saved state: crate soundness.)
 ghost use mathlib.Core.Path.{_≡_};
 ghost use Rattle.rules.specs.Machine.{fresh};
 ghost use Rattle.kernel.specs.View.{encode};

@@ -75,7 +75,7 @@ impl Kernel {
         }
     }
 
-    // 4, with a time that has passed: the runner goes to the tail of its base
+    // 4, with a time not above the clock: the runner goes to the tail of its base
     pub(crate) fn yielded(self) -> Stepped
         ensures { λ r. ⌜ r ≡ step.yieldedOf self ⌝ }
     {

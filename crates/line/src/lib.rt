@@ -23,7 +23,7 @@ pub fn of_task(table: &[u8; 32], t: TaskID) -> u8
     if i < 32 { cells[i] } else { 0 }
 }
 
-// The times are 256 bytes, so they are lent.
+// A task's time, 0 for what is no task.
 pub fn time_of(until: &[u64; 32], t: TaskID) -> u64
     ensures { λ r. ⌜ r ≡ time-in (now (until .entry)) (t .0) ⌝ }
 {

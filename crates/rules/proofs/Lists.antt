@@ -86,7 +86,7 @@ module _ {A : Type 0} where
   set-either (x ∷ l) (suc i) v (suc j) d =
       ⊎-elim (λ (w : (j ≡ i) × (getD (set l i v) j d ≡ v)). inl (ap suc (w .0), w .1)) (λ (w : getD (set l i v) j d ≡ getD l j d). inr w) (set-either l i v j d)
 
--- Whatever is placed by a level keeps a relation that goes with the level: those up to the first below p stand over x, and x over the front-and-rest.
+-- Whatever is placed by a level keeps a relation that goes with the level: those up to the first below p stand over x, and x over the rest.
 pub tail-pairwise : (R : ℕ → ℕ → Type 0) (act : ℕ → ℕ) (p x : ℕ) → ((y : ℕ) → p ≤ act y → R y x)
     → (l : List ℕ) → Pairwise (λ a b. act b ≤ act a) l → All (λ y. act y < p → R x y) l → Pairwise R l → Pairwise R (at-tail act p x l)
 tail-pairwise R act p x up [] o down k = (tt, tt)

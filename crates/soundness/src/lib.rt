@@ -5,7 +5,7 @@ ghost use Rattle.line.specs.Tables.{zeros};
 ghost use Rattle.soundness.specs.Test as test;
 use line::TaskID;
 
-// Where a task stands: nowhere is 0, in both or twice is 9.
+// Where a task stands: nowhere is 0, in two places or twice in one is 9.
 const READY: u8 = 1;
 
 const DELAYED: u8 = 2;

@@ -1,3 +1,4 @@
+-- `bench_run` meets its contract. The invariant: state and total are the definition's behind i commands. Assumes nothing.
 use lib.ListN.{length}
 use native.Mathlib.Omega.{arith}
 use Prim.Native.Nat.{suc, _+_, _≤_, _-_}
@@ -22,76 +23,59 @@ Inv-loop ops a b values sum n k₀ total₀ i₀ k total i =
 abbrev μ-loop : tie.MeasureT-loop
 μ-loop ops a b values sum n k₀ total₀ i₀ k total i = n - i
 
--- src/lib.rt:34:9
 lesser-requires : tie.Need-lesser-requires Inv-loop μ-loop
 lesser-requires c κs = search needs
 
--- src/lib.rt:35:9
 lesser-requires-2 : tie.Need-lesser-requires-2 Inv-loop μ-loop
 lesser-requires-2 c κs = search needs
 
--- src/lib.rt:33:9
 lesser-requires-3 : tie.Need-lesser-requires-3 Inv-loop μ-loop
 lesser-requires-3 c κs = search needs
 
--- src/lib.rt:37:9
 fresh-requires : tie.Need-fresh-requires Inv-loop μ-loop
 fresh-requires c κs = search needs
 
--- src/lib.rt:40:5
 loop-holds : tie.Need-loop-holds Inv-loop μ-loop
 loop-holds c =
     let w = counted _ _ _ _ _ _ _ (c .before .before .before .lesser .ensures) (c .before .before .lesser2 .ensures) (c .before .lesser3 .ensures) in
     (omega arith, w .0, w .1, w .2, w .3, w .4, c .fresh .ensures, refl)
 
--- src/lib.rt:42:17
 shared-slice-read-t21 : tie.Need-shared-slice-read-t21 Inv-loop μ-loop
 shared-slice-read-t21 c = search needs
 
--- src/lib.rt:43:16
 shared-slice-read-t23 : tie.Need-shared-slice-read-t23 Inv-loop μ-loop
 shared-slice-read-t23 c = search needs
 
--- src/lib.rt:44:16
 shared-slice-read-t25 : tie.Need-shared-slice-read-t25 Inv-loop μ-loop
 shared-slice-read-t25 c = search needs
 
--- src/lib.rt:45:20
 mul-t26 : tie.Need-mul-t26 Inv-loop μ-loop
 mul-t26 c = search needs
 
--- src/lib.rt:45:20
 shared-slice-read-t28 : tie.Need-shared-slice-read-t28 Inv-loop μ-loop
 shared-slice-read-t28 c = search needs
 
--- src/lib.rt:47:13
 step-requires : tie.Need-step-requires Inv-loop μ-loop
 step-requires c κs = search needs
 
--- src/lib.rt:48:9
 mixed-requires : tie.Need-mixed-requires Inv-loop μ-loop
 mixed-requires c κs = search needs
 
--- src/lib.rt:56:9
 add-i : tie.Need-add-i Inv-loop μ-loop
 add-i c = search needs
 
--- src/lib.rt:40:5
 loop-less : tie.Need-loop-less Inv-loop μ-loop
 loop-less c = search needs
 
--- src/lib.rt:40:5
 loop-again : tie.Need-loop-again Inv-loop μ-loop
 loop-again c =
     let l = c .before .before .before .before .before .before .before .before .loop in
     let w = turn _ _ _ _ _ (l .i) (l .i + 1) (l .k) (l .total) _ _ (let z : l .i + 1 ≡ suc (l .i) = omega arith in z) (l .inv .6) (l .inv .7) (c .before .before .step .ensures) (c .before .mixed .ensures) in
     (omega (arith, c .before .before .before .before .before .before .before .loop-test .taken), l .inv .1, l .inv .2, l .inv .3, l .inv .4, l .inv .5, w .0, w .1)
 
--- src/lib.rt:58:5
 wrapping-add-u64-requires : tie.Need-wrapping-add-u64-requires Inv-loop μ-loop
 wrapping-add-u64-requires c κs = search needs
 
--- src/lib.rt:29:1
 returns : tie.Need-returns Inv-loop μ-loop
 returns c =
     let l = c .before .before .loop in

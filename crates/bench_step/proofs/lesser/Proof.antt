@@ -1,14 +1,13 @@
+-- `lesser` meets its contract, by its two arms. Assumes nothing.
 use borrow.Author.Tests.{lt-ltb, le-ltb}
 use Rattle.bench_step.proofs.lesser.Statement.{statement}
 use Rattle.bench_step.proofs.lesser.Tie as tie
 use Rattle.bench_step.proofs.lesser.Reads as reads
 use Rattle.bench_step.proofs.lesser.Lts as lts
 
--- src/lib.rt:22:1
 returns : tie.Need-returns
 returns c = rw (lt-ltb _ _ (c .if1 .taken))
 
--- src/lib.rt:22:1
 returns-2 : tie.Need-returns-2
 returns-2 c = rw (le-ltb _ _ (c .if1 .left))
 

@@ -1,3 +1,4 @@
+-- `mixed` meets its contract. Assumes nothing.
 use borrow.Author.Needs.{needs}
 use Rattle.bench_step.proofs.mixed.Statement.{statement}
 use Rattle.bench_step.proofs.mixed.Tie as tie
@@ -5,35 +6,27 @@ use Rattle.bench_step.proofs.mixed.Reads as reads
 use Rattle.bench_step.proofs.mixed.Lts as lts
 use Rattle.std.proofs.num.wrapping_add_u64.Reads as wrapping-add-u64-reads
 
--- src/lib.rt:13:9
 mul-wrapping-add-u64 : tie.Need-mul-wrapping-add-u64
 mul-wrapping-add-u64 c = search needs
 
--- src/lib.rt:12:9
 wrapping-add-u64-requires : tie.Need-wrapping-add-u64-requires
 wrapping-add-u64-requires c κs = search needs
 
--- src/lib.rt:18:23
 mul-wrapping-add-u64-2 : tie.Need-mul-wrapping-add-u64-2
 mul-wrapping-add-u64-2 c = search needs
 
--- src/lib.rt:18:9
 add-wrapping-add-u64 : tie.Need-add-wrapping-add-u64
 add-wrapping-add-u64 c = search needs
 
--- src/lib.rt:18:48
 mul-wrapping-add-u64-3 : tie.Need-mul-wrapping-add-u64-3
 mul-wrapping-add-u64-3 c = search needs
 
--- src/lib.rt:18:9
 add-wrapping-add-u64-2 : tie.Need-add-wrapping-add-u64-2
 add-wrapping-add-u64-2 c = search needs
 
--- src/lib.rt:16:5
 wrapping-add-u64-requires-2 : tie.Need-wrapping-add-u64-requires-2
 wrapping-add-u64-requires-2 c κs = search needs
 
--- src/lib.rt:9:1
 returns : tie.Need-returns
 returns c = rw (c .wrapping-add-u642 .ensures, c .before .wrapping-add-u64 .ensures)
 

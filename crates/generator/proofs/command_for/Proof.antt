@@ -1,10 +1,10 @@
+-- `generator::command_for` meets its contract, by what its callees ensure of each column. Assumes nothing.
 use Prim.Native.Nat.{ℕ, _%_}
 use mathlib.Core.Path.{_≡_, ap, _∙_}
 use mathlib.Core.Bool.{cond}
 use mathlib.Core.List.{[], _∷_}
 use Rattle.rules.specs.Line.{at}
 use Rattle.generator.specs.Tables.{commandAt}
--- `generator::command_for` meets its contract, by what its callees ensure of each column. Assumes nothing.
 use borrow.Author.Needs.{needs}
 use Rattle.generator.proofs.command_for.Statement.{statement}
 use Rattle.generator.proofs.command_for.Tie as tie
