@@ -124,9 +124,6 @@ module _ (k : Kernel) (seed : ℕ) (p q : Profile) (h : good-profile (profileOf 
       go true e = rw (h, j, e)
       go false e = rw (h, j, e)
 
-no-profile : Profile
-no-profile = record { span = 0; weights = replicate 8 0 }
-
 fitted-draw : (k : Kernel) (seed span : ℕ) (weights : List ℕ) → drawnOf k seed (fittedProfile span weights) ≡ drawnOf k seed (toldProfile span weights)
 fitted-draw k seed span weights = go (leb span 4294967295) refl (eqb (length weights) 8) refl
   where

@@ -71,11 +71,6 @@ time-pad until v t l r k =
     place-pad (later until v) (λ x. ltb v (at until x)) refl t 32 (tasks l) (all-map {P = λ x. (x < 32) × (x ≢ 0)} {Q = λ x. later until v x ≡ ltb v (at until x)} (λ x w. rw (ne-eqb x 0 (w .1), lt-leb 32 x (w .0))) (tasks l) k) ∙ ap (pad 32) (sym (tasks-place until v t l r))
 
 module _ (m : Machine) (s : Sound m) where
-  -- The front, and the answer that an accepted op gives.
-  pub first-tie : first (encode m) ≡ runner m
-  unfolding encode
-  first-tie = front-pad 31 (m .ready)
-
   runner-rank : runner m ≢ 0 → 1 ≤ at (m .base) (runner m)
   runner-rank n = based m s (runner m) (omega (arith, runner-there m s)) n
 

@@ -106,11 +106,6 @@ unfolding wakesOf wakes-in
 wakes-tie [] m s = refl
 wakes-tie (c ∷ cs) m s = rw (woke-tie m s c, step-on m s (said c), wakes-tie cs (next m (said c)) (next-sound m s (said c)))
 
-pub moments-tie : (cs : List Command) (m : Machine) → Sound m → momentsOf (encode m) cs ≡ map encode (moments m (map said cs))
-unfolding momentsOf moments
-moments-tie [] m s = refl
-moments-tie (c ∷ cs) m s = rw (step-on m s (said c), moments-tie cs (next m (said c)) (next-sound m s (said c)))
-
 -- of each state of a run: a statement on its tables, and one on the machine
 pub all-moments : (P : Kernel → Type 0) (Q : Machine → Type 0) → ((m : Machine) → Sound m → P (encode m) → Q m) → (cs : List Command) (m : Machine) → Sound m
     → All P (momentsOf (encode m) cs) → All Q (moments m (map said cs))

@@ -88,12 +88,6 @@ module _ (m : Machine) (s : Sound m) where
   leaves : eqb (runner m) 0 ≡ false → not (eqb (at (m .held) (runner m)) 0) ≡ false → MayLeave m
   leaves h k = record { busy = eqb-false _ _ h; bare = eqb-true _ _ (not-false _ k) }
 
-  closes : (o : ℕ) → not (not (eqb (at (m .ceiling) o) 0)) ≡ false → eqb (runner m) 0 ≡ false → (w : ℕ) → not (holds-so m o w) ≡ false → (b : Bool)
-      → AllowedOut (release (cond b (serve o) none) m) close
-  unfolding release
-  closes o h k w q true = λ z. eqb-false _ _ k (sym (runner-stays o (eqb-true _ _ (and-true _ _ (not-false _ q) .0)) (is-declared o h)) ∙ z)
-  closes o h k w q false = eqb-false _ _ k
-
   none-waits : (b : ℕ) (q : List ℕ) → eqb b 1 ≡ false → leb b 1 ≡ true → eqb b 0 && not (empty q) ≡ false → q ≡ []
   none-waits b q n l e =
       let z : b ≡ 0 = (let x : b ≢ 1 = eqb-false _ _ n in let y : b ≤ 1 = leb-true _ _ l in omega arith) in

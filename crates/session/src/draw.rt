@@ -7,6 +7,7 @@ ghost use Rattle.text.specs.Lines.{held-bytes};
 ghost use Rattle.text.specs.Printed.{draw-room};
 use crate::tell::following;
 use crate::tell::tell;
+use generator::Drawn;
 use generator::Profile;
 use kernel::Kernel;
 use text::command::Spoken;
@@ -201,6 +202,20 @@ fn end(d: Draw) -> Heard
     not_heard(d)
 }
 
+// What is drawn, as a line would say it.
+fn spoken(x: Drawn) -> Spoken
+    ensures { λ r. ⌜ r ≡ draw.spoken x ⌝ }
+{
+    let c = x.command;
+    Spoken {
+        code: x.code,
+        op: c.op,
+        a: c.a,
+        b: c.b,
+        value: c.value,
+    }
+}
+
 // One draw, where one is left.
 fn draw_next(d: Draw) -> Heard
     ensures { λ r. ⌜ r ≡ draw.drawn-next d ⌝ }
@@ -214,19 +229,8 @@ fn draw_next(d: Draw) -> Heard
     }
     let profile = d.profile;
     let x = generator::draw(d.kernel, d.seed, profile);
-    let c = x.command;
     let n = following(d.n);
-    let t = tell(
-        d.kernel,
-        n,
-        Spoken {
-            code: x.code,
-            op: c.op,
-            a: c.a,
-            b: c.b,
-            value: c.value,
-        },
-    );
+    let t = tell(d.kernel, n, spoken(x));
     let kernel = t.kernel;
     let row = t.row;
     let next = Draw {

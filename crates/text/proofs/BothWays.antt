@@ -68,9 +68,6 @@ module _ (f n : ℕ) where
   tenth-fits : n < 10 ^ suc f → n / 10 < 10 ^ f
   tenth-fits h = let e : 10 ^ suc f ≡ 10 ^ f * 10 = pow-suc 10 f in omega arith
 
-nine-least : (n : ℕ) → n < 10 ^ 1 → 10 ≤ n → ⊥
-nine-least n h g = omega arith
-
 digits-only : (f n : ℕ) → every digit (decimal-in f n) ≡ true
 unfolding decimal-in
 digits-only zero n = refl

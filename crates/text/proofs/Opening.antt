@@ -155,9 +155,6 @@ value-bound line r most l h = rw (h .value) (decimal-bound most l)
 -- ---- the weights
 
 module _ (w : List ℕ) (i : ℕ) where
-  abbrev few : List ℕ → Bool
-  few l = every (λ x. leb x 100) l
-
   pub heavy : i < length w → 100 < getD w i 0 → false ≡ every (λ x. leb x 100) (drop i w)
   heavy h g = rw (drop-cons w i 0 h, lt-leb (getD w i 0) 100 g)
 

@@ -1,8 +1,10 @@
 -- `session::draw::draw_next` meets its contract: nothing is drawn, or one command. Assumes nothing.
 use Prim.Native.Nat.{_<_}
 use native.Mathlib.Omega.{arith}
+use mathlib.Core.Path.{ap, _∙_}
 use borrow.Author.Tests.{eq-eqb, ne-eqb, lt-leb}
 use Rattle.session.specs.Draw.{drawn-next}
+use Rattle.session.specs.Told.{told}
 use Rattle.session.proofs.Drawing.{is-drawn}
 use borrow.Author.Needs.{needs}
 use Rattle.session.proofs.draw.draw_next.Statement.{statement}
@@ -31,19 +33,24 @@ draw-requires c κs = search needs
 following-requires : tie.Need-following-requires
 following-requires c κs = search needs
 
+spoken-requires : tie.Need-spoken-requires
+spoken-requires c κs = search needs
+
 tell-requires : tie.Need-tell-requires
 tell-requires c κs = search needs
 
-sub-t13 : tie.Need-sub-t13
-sub-t13 c = search needs
+sub-t12 : tie.Need-sub-t12
+sub-t12 c = search needs
 
 returns-3 : tie.Need-returns-3
 returns-3 c =
-    let told = c .before .before in
-    let made = told .before .before .before in
+    let w = c .before .before in
+    let made = w .before .before .before in
     let tests = made .before .before in
-    is-drawn (tests .before .before .before .args .d) (made .draw .result) (told .before .following .result) (told .tell .result) (tests .before .if1 .left) (tests .if2 .left)
-    (made .draw .ensures) (told .before .following .ensures) (told .tell .ensures)
+    let d = tests .before .before .before .args .d in
+    let said = w .tell .ensures ∙ ap (told (d .kernel) (w .before .before .following .result)) (w .before .spoken .ensures) in
+    is-drawn d (made .draw .result) (w .before .before .following .result) (w .tell .result) (tests .before .if1 .left) (tests .if2 .left)
+    (made .draw .ensures) (w .before .before .following .ensures) said
 
 pub draw-next-spec : {M : Type 1} → statement M
 draw-next-spec =
@@ -55,6 +62,7 @@ draw-next-spec =
     returns-2
     draw-requires
     following-requires
+    spoken-requires
     tell-requires
-    sub-t13
+    sub-t12
     returns-3)
