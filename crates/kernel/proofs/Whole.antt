@@ -16,7 +16,6 @@ use Rattle.rules.specs.Table as T
 use Rattle.rules.specs.Table.{Out, same, take, yield, close, sleep, await, none, due, serve, moves, first-due, effect, freed, freed-by, release, leave, carry}
 use Rattle.rules.specs.Refusals.{refusal, fits, operands}
 use Rattle.rules.specs.Run.{next, released, answer}
-use Rattle.rules.specs.Run as R
 use Rattle.rules.proofs.Words.{All, cmd}
 use Rattle.rules.proofs.Tests.{and-true}
 use Rattle.rules.proofs.Sounds.{Sound}

@@ -10,7 +10,6 @@ use lib.ListN.{length-map}
 use borrow.Author.Tests.{ne-eqb}
 use Rattle.rules.specs.Line.{count, front}
 use Rattle.rules.specs.Machine.{Machine, Command, tasks}
-use Rattle.rules.specs.Machine as rules
 use Rattle.rules.specs.Sound.{sound}
 use Rattle.rules.specs.Refusals.{refusal}
 use Rattle.rules.specs.Run.{next, answer}
@@ -20,7 +19,6 @@ use Rattle.rules.proofs.Lists.{lt-or-ge}
 use Rattle.rules.proofs.Sounds.{Sound, tests-sound}
 use Rattle.rules.proofs.Step.{next-sound}
 use Rattle.kernel.specs.declared.Kernel.{Kernel}
-use Rattle.kernel.specs.declared.command.Command as given
 use Rattle.kernel.specs.View.{live, with-idle, pad, times, encode, view, tidy}
 use Rattle.kernel.specs.Public.{isSound, report, shape, stepOf}
 use Rattle.kernel.proofs.Padded.{pad-size, ended-ready, ended-live, tasks-timed, times-size, times-absent}

@@ -8,13 +8,6 @@ use Rattle.bench_step.proofs.Turns.{counted, turn, finish}
 use borrow.Author.Needs.{needs}
 use Rattle.bench_step.proofs.bench_run.Statement.{statement}
 use Rattle.bench_step.proofs.bench_run.Tie as tie
-use Rattle.bench_step.proofs.bench_run.Reads as reads
-use Rattle.bench_step.proofs.bench_run.Lts as lts
-use Rattle.bench_step.proofs.lesser.Reads as lesser-reads
-use Rattle.bench_step.proofs.mixed.Reads as mixed-reads
-use Rattle.kernel.proofs.Kernel.fresh.Reads as fresh-reads
-use Rattle.kernel.proofs.Kernel.step.Reads as step-reads
-use Rattle.std.proofs.num.wrapping_add_u64.Reads as wrapping-add-u64-reads
 
 abbrev Inv-loop : tie.InvT-loop
 Inv-loop ops a b values sum n k₀ total₀ i₀ k total i =

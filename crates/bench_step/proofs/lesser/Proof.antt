@@ -2,8 +2,6 @@
 use borrow.Author.Tests.{lt-ltb, le-ltb}
 use Rattle.bench_step.proofs.lesser.Statement.{statement}
 use Rattle.bench_step.proofs.lesser.Tie as tie
-use Rattle.bench_step.proofs.lesser.Reads as reads
-use Rattle.bench_step.proofs.lesser.Lts as lts
 
 returns : tie.Need-returns
 returns c = rw (lt-ltb _ _ (c .if1 .taken))

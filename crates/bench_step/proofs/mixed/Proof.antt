@@ -2,9 +2,6 @@
 use borrow.Author.Needs.{needs}
 use Rattle.bench_step.proofs.mixed.Statement.{statement}
 use Rattle.bench_step.proofs.mixed.Tie as tie
-use Rattle.bench_step.proofs.mixed.Reads as reads
-use Rattle.bench_step.proofs.mixed.Lts as lts
-use Rattle.std.proofs.num.wrapping_add_u64.Reads as wrapping-add-u64-reads
 
 mul-wrapping-add-u64 : tie.Need-mul-wrapping-add-u64
 mul-wrapping-add-u64 c = search needs
