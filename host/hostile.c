@@ -7,6 +7,7 @@
 #include <inttypes.h>
 #include <stdio.h>
 #include <stdlib.h>
+#include "chance.h"
 #include "judge.h"
 #include "rvn_image.h"
 
@@ -17,25 +18,6 @@
 static uint8_t area[GUARD + 8 + LONGEST + GUARD], expected[sizeof area];
 static uint8_t good[512]; /* an image that is stepped all along */
 static unsigned long counts[19], drawn_ops[12], calls;
-static uint64_t seed = 2647435461u;
-
-static uint64_t draw(void)
-{
-    seed ^= seed << 13;
-    seed ^= seed >> 7;
-    seed ^= seed << 17;
-    return seed;
-}
-
-static uint64_t below(uint64_t n)
-{
-    return (draw() >> 11) % n;
-}
-
-static int one_in(uint64_t n)
-{
-    return below(n) == 0;
-}
 
 /* ---- bytes to lend */
 
@@ -141,7 +123,10 @@ static uint64_t operand(uint64_t n)
     case 0: return n;
     case 1: return below(256);
     case 2: return 256 + below(n);
-    case 3: return below(n) | (uint64_t)1 << (8 + below(56));
+    case 3: {
+        uint64_t low = below(n);
+        return low | (uint64_t)1 << (8 + below(56));
+    }
     case 4: return one_in(4) ? UINT64_MAX : draw();
     default: return below(n);
     }
@@ -188,8 +173,10 @@ static struct draft draw_somehow(uint8_t *image, size_t length)
     for (int i = 0; i < MOST_WEIGHTS + 2; i++)
         lent.weights[i] = one_in(6) ? 0 : one_in(6) ? 100 : (uint32_t)below(101);
     lent.weights[2] = one_in(40) ? 0 : 1 + (uint32_t)below(20);
-    if (one_in(40))
-        lent.weights[1 + below(RVN_WEIGHTS)] = one_in(2) ? 101 : (uint32_t)draw();
+    if (one_in(40)) {
+        uint32_t heavy = one_in(2) ? 101 : (uint32_t)draw();
+        lent.weights[1 + below(RVN_WEIGHTS)] = heavy;
+    }
     if (one_in(40))
         lent.seed[1] = 0;
     return try_draw(image, length, span, lent.weights + 1, count);
@@ -301,7 +288,8 @@ int main(void)
         for (int random = 0; random < 2; random++) {
             const uint8_t *from = random ? NULL : bytes;
             try_step(lend(from, length), length, RVN_WAKE, 0, 0, 0);
-            try_left(lend(from, length), length, 1 + below(31));
+            uint64_t task = 1 + below(31);
+            try_left(lend(from, length), length, task);
             draw_somehow(lend(from, length), length);
             try_fresh(lend(from, length), length);
         }
@@ -332,7 +320,8 @@ int main(void)
             call_somehow(lend(NULL, length), length);
         } else if (which <= 3) {
             memcpy(bytes, good, 512);
-            bytes[below(512)] ^= (uint8_t)(one_in(2) ? 1u << below(8) : draw());
+            uint8_t change = (uint8_t)(one_in(2) ? 1u << below(8) : draw());
+            bytes[below(512)] ^= change;
             call_somehow(lend(bytes, 512), 512);
         } else if (which <= 5) {
             forge(bytes);

@@ -1,4 +1,5 @@
-/* Times reading and writing a tape: the proved library beside the same loops in C, in one program, turn by turn, the best of several runs. */
+/* Times reading and writing a tape: the proved library beside the same loops in C, in one program, turn by turn, the best of several rounds.
+   tape [ROUNDS] */
 #define _POSIX_C_SOURCE 199309L
 #include "c_tape.h"
 #include <stdio.h>
@@ -60,9 +61,7 @@ static double now(void)
     return (double)t.tv_sec * 1e9 + (double)t.tv_nsec;
 }
 
-enum { RUNS = 15 };
-
-static void bench(const char *what, uint32_t records, uint32_t passes)
+static void bench(const char *what, uint32_t records, uint32_t passes, uint32_t rounds)
 {
     size_t n = (size_t)records * 16;
     uint8_t *ours = malloc(n), *theirs = malloc(n), *bare = malloc(n);
@@ -73,7 +72,7 @@ static void bench(const char *what, uint32_t records, uint32_t passes)
     memset(ours, 255, n);
     memset(theirs, 255, n);
     memset(bare, 255, n);
-    for (int run = 0; run < RUNS; run++) {
+    for (uint32_t round = 0; round < rounds; round++) {
         for (int k = 0; k < 6; k++) {
             double began = now();
             for (uint32_t p = 0; p < passes; p++) {
@@ -108,11 +107,12 @@ static void bench(const char *what, uint32_t records, uint32_t passes)
     free(bare);
 }
 
-int main(void)
+int main(int argc, char **argv)
 {
-    puts("per record of 16 bytes; best of 15 runs; buffers written before they are read");
-    bench("64 KiB", 1 << 12, 500);
-    bench("2 MiB", 1 << 17, 20);
-    bench("64 MiB", 1 << 22, 1);
+    uint32_t rounds = argc > 1 ? (uint32_t)strtoul(argv[1], 0, 10) : 15;
+    printf("per record of 16 bytes; best of %u rounds; buffers written before they are read\n", rounds);
+    bench("64 KiB", 1 << 12, 500, rounds);
+    bench("2 MiB", 1 << 17, 20, rounds);
+    bench("64 MiB", 1 << 22, 1, rounds);
     return 0;
 }

@@ -20,6 +20,20 @@ static inline int c_fault(size_t at, const c_record *r)
     return r->op >= 1 && r->op <= 11 && r->code <= 13 && r->running <= 31 && r->released <= 31 ? 0 : 15;
 }
 
+/* the fields of 16 bytes */
+static inline void c_fields(const uint8_t *p, c_record *r)
+{
+    r->op = p[2];
+    r->a = p[3];
+    r->b = p[4];
+    r->code = p[5];
+    r->running = p[6];
+    r->released = p[7];
+    r->value = 0;
+    for (int i = 7; i >= 0; i--)
+        r->value = r->value << 8 | p[8 + i];
+}
+
 /* C_FOUND, C_END, 15 or 17 */
 static inline int c_read_at(const uint8_t *tape, size_t n, size_t at, c_record *r)
 {
@@ -32,15 +46,7 @@ static inline int c_read_at(const uint8_t *tape, size_t n, size_t at, c_record *
     const uint8_t *p = tape + at;
     if (p[0] != 0x52 || p[1] != 0x56)
         return 15;
-    r->op = p[2];
-    r->a = p[3];
-    r->b = p[4];
-    r->code = p[5];
-    r->running = p[6];
-    r->released = p[7];
-    r->value = 0;
-    for (int i = 7; i >= 0; i--)
-        r->value = r->value << 8 | p[8 + i];
+    c_fields(p, r);
     return c_fault(at, r);
 }
 

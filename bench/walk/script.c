@@ -2,7 +2,7 @@
    state, so that most are accepted. The same bytes on every machine. */
 #include <stdio.h>
 #include <stdlib.h>
-#include "../kernel.h"
+#include "../step/kernel.h"
 
 static uint32_t seed = 1;
 static uint32_t draw(uint32_t n) {

@@ -2,7 +2,7 @@
 #include <stdio.h>
 #include <stdlib.h>
 #include <unistd.h>
-#include "../kernel.h"
+#include "../step/kernel.h"
 
 enum { PIECE = 65536, ROOM = 128 };
 

@@ -1,4 +1,4 @@
-// The entry point for bench/: the shipped step over a stream of commands, for C to time.
+// The entry point for bench/step: the shipped step over a stream of commands, for C to time.
 ghost use Prim.Native.Nat.{_%_};
 ghost use mathlib.Core.Path.{_≡_};
 ghost use Rattle.bench_step.specs.Stream as stream;

@@ -11,7 +11,7 @@ use borrow.Author.Tests.{leb-true, ltb-true, ltb-false, lt-ltb, le-ltb}
 use Rattle.rules.specs.Line.{every}
 use Rattle.rules.specs.Machine.{Command}
 use Rattle.rules.proofs.Words.{All}
-use Rattle.rules.proofs.Tests.{and-true}
+use Rattle.rules.proofs.Tests.{both-true}
 use Rattle.generator.specs.Menu.{Kind}
 use Rattle.generator.specs.Draw.{weigh, total, choose, no-command}
 
@@ -95,7 +95,7 @@ pub total-small : (ks : List Kind) (ws : List ℕ) → every (λ w. leb w 100) w
 total-small [] ws h = omega arith
 total-small (k ∷ ks) [] h = omega arith
 total-small (k ∷ ks) (w ∷ ws) h =
-    let g = and-true (leb w 100) (every (λ w. leb w 100) ws) h in
+    let g = both-true (leb w 100) (every (λ w. leb w 100) ws) h in
     let a : w ≤ 100 = leb-true w 100 (g .0) in
     omega (arith, total-small ks ws (g .1), at-most (k .legal))
   where

@@ -13,7 +13,7 @@ use Rattle.rules.specs.Line.{at, count, empty, within}
 use Rattle.rules.specs.Machine.{Machine, Command, runner, declared, empty-handed, for-open, for-entry}
 use Rattle.rules.specs.Refusals.{refusal, holds-so}
 use Rattle.rules.proofs.Words.{cmd}
-use Rattle.rules.proofs.Tests.{and-true, or-false}
+use Rattle.rules.proofs.Tests.{both-true, both-false}
 use Rattle.rules.proofs.Sounds.{Sound}
 use Rattle.rules.proofs.Accepted.{check-passed}
 use Rattle.generator.specs.Menu.{Kind, menu, free-runner, inside, eligible, eligibles, sift, objects, span-fits}
@@ -47,15 +47,15 @@ module _ (m : Machine) (s : Sound m) (on : m .started ≡ true) (span : ℕ) (fi
   takes : (o : ℕ) → within 1 7 o ≡ true → not (declared m o) ≡ false → ltb (at (m .ceiling) o) (at (m .base) (runner m)) ≡ false → leb 1 (count o (m .held)) ≡ false
       → eqb (runner m) 0 ≡ false → not (empty-handed m (runner m)) ≡ false → free-runner m && not (empty (eligibles m)) ≡ true
   takes o r d c h a b =
-      let g = and-true (leb 1 o) (leb o 7) r in
+      let g = both-true (leb 1 o) (leb o 7) r in
       let e : eligible m o ≡ true = rw (not-false (declared m o) d, le-leb (at (m .base) (runner m)) (at (m .ceiling) o) (ltb-false _ _ c), h) in
       rw (free a b, sift-some (eligible m) o objects (in-objects o (leb-true _ _ (g .0)) (leb-true _ _ (g .1))) e)
 
   within-it : (o w : ℕ) → within 1 7 o ≡ true → not (holds-so m o w) ≡ false → inside m w ≡ true
   within-it o w r h =
-      let g = and-true (eqb (at (m .held) (runner m)) o) (eqb (at (m .way) (runner m)) w) (not-false _ h) in
+      let g = both-true (eqb (at (m .held) (runner m)) o) (eqb (at (m .way) (runner m)) w) (not-false _ h) in
       let e : at (m .held) (runner m) ≡ o = eqb-true _ _ (g .0) in
-      let n : at (m .held) (runner m) ≢ 0 = λ z. (let k = leb-true 1 o (and-true (leb 1 o) (leb o 7) r .0) in omega (arith, e, z)) in
+      let n : at (m .held) (runner m) ≢ 0 = λ z. (let k = leb-true 1 o (both-true (leb 1 o) (leb o 7) r .0) in omega (arith, e, z)) in
       rw (ne-eqb (at (m .held) (runner m)) 0 n, g .1)
 
   abbrev legal-at : ℕ → Kind → Bool
@@ -69,24 +69,24 @@ module _ (m : Machine) (s : Sound m) (on : m .started ≡ true) (span : ℕ) (fi
   back (suc (suc zero)) a b v k h f ok = f (inr refl)
   back (suc (suc (suc zero))) a b v k h f ok =
       let p = check-passed m (cmd 7 a b v) ok in
-      takes a (and-true (within 1 7 a) (eqb b 0) (and-true (within 1 7 a && eqb b 0) (eqb v 0) (not-false _ (p 4)) .0) .0) (p 6) (p 10) (p 11) (p 7) (p 8)
+      takes a (both-true (within 1 7 a) (eqb b 0) (both-true (within 1 7 a && eqb b 0) (eqb v 0) (not-false _ (p 4)) .0) .0) (p 6) (p 10) (p 11) (p 7) (p 8)
   back (suc (suc (suc (suc zero)))) a b v k h f ok =
       let p = check-passed m (cmd 8 a b v) ok in
-      within-it a for-open (and-true (within 1 7 a) (leb b 1) (and-true (within 1 7 a && leb b 1) (eqb v 0) (not-false _ (p 4)) .0) .0) (or-false _ false (p 9) .0)
+      within-it a for-open (both-true (within 1 7 a) (leb b 1) (both-true (within 1 7 a && leb b 1) (eqb v 0) (not-false _ (p 4)) .0) .0) (both-false _ false (p 9) .0)
   back (suc (suc (suc (suc (suc zero))))) a b v k h f ok =
       let p = check-passed m (cmd 9 a b v) ok in
-      within-it a for-open (and-true (within 1 7 a) (eqb b 0) (and-true (within 1 7 a && eqb b 0) (eqb v 0) (not-false _ (p 4)) .0) .0) (or-false _ false (p 9) .0)
+      within-it a for-open (both-true (within 1 7 a) (eqb b 0) (both-true (within 1 7 a && eqb b 0) (eqb v 0) (not-false _ (p 4)) .0) .0) (both-false _ false (p 9) .0)
   back (suc (suc (suc (suc (suc (suc zero)))))) a b v k h f ok =
       let p = check-passed m (cmd 10 a b v) ok in
-      takes a (and-true (within 1 7 a) (leb b 1) (and-true (within 1 7 a && leb b 1) (eqb v 0) (not-false _ (p 4)) .0) .0) (p 6) (p 10) (p 11) (p 7) (p 8)
+      takes a (both-true (within 1 7 a) (leb b 1) (both-true (within 1 7 a && leb b 1) (eqb v 0) (not-false _ (p 4)) .0) .0) (p 6) (p 10) (p 11) (p 7) (p 8)
   back (suc (suc (suc (suc (suc (suc (suc zero))))))) a b v k h f ok =
       let p = check-passed m (cmd 11 a b v) ok in
-      within-it a for-entry (and-true (within 1 7 a) (eqb b 0) (and-true (within 1 7 a && eqb b 0) (eqb v 0) (not-false _ (p 4)) .0) .0) (p 9)
+      within-it a for-entry (both-true (within 1 7 a) (eqb b 0) (both-true (within 1 7 a && eqb b 0) (eqb v 0) (not-false _ (p 4)) .0) .0) (p 9)
   back (suc (suc (suc (suc (suc (suc (suc (suc i)))))))) a b v k h f ok = absurd (omega arith)
 
   spanned : (i : ℕ) (k : Kind) → legal-at i k ≡ true → (i ≡ 0) ⊎ (i ≡ 2) → span-fits m span ≡ true
   unfolding menu
-  spanned i k e (inl z) = and-true (free-runner m) (span-fits m span) (rw z at e) .1
+  spanned i k e (inl z) = both-true (free-runner m) (span-fits m span) (rw z at e) .1
   spanned i k e (inr z) = rw z at e
 
   pub legal-exactly : (i : ℕ) (k : Kind) → i < 8

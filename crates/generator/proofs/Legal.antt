@@ -4,7 +4,7 @@ use native.Mathlib.Omega.{arith}
 use native.Mathlib.Nat.{mod-lt}
 use mathlib.Core.Path.{_≡_, refl, sym, ap, _∙_}
 use mathlib.Core.Logic.{_≢_}
-use mathlib.Core.Bool.{Bool, true, false, cond, not, _&&_, true≢false}
+use mathlib.Core.Bool.{Bool, true, false, cond, not, _&&_, true≢false, and-false}
 use mathlib.Core.List.{List, [], _∷_}
 use lib.Dec.{eqb, leb, ltb}
 use lib.ListN.{getD, length}
@@ -13,7 +13,7 @@ use Rattle.rules.specs.Line.{at, count, empty, within}
 use Rattle.rules.specs.Machine.{Machine, Command, declared, runner, for-open, for-entry}
 use Rattle.rules.specs.Refusals.{refusal}
 use Rattle.rules.proofs.Words.{All, cmd}
-use Rattle.rules.proofs.Tests.{and-true}
+use Rattle.rules.proofs.Tests.{both-true}
 use Rattle.rules.proofs.Sounds.{Sound, object-known, runner-known}
 use Rattle.generator.specs.Menu.{Kind, hand, free-runner, inside, eligible, sift, eligibles, pick, span-fits, entry-barrier, menu}
 
@@ -39,11 +39,7 @@ bit : (d : ℕ) → leb (d % 2) 1 ≡ true
 bit d = le-leb (d % 2) 1 (omega arith)
 
 barrier : (d : ℕ) (b : Bool) → (leb (cond b (d % 2) 1) 1 ≡ true) × (eqb (cond b (d % 2) 1) 0 && not b ≡ false)
-barrier d true = (bit d, none (eqb (d % 2) 0))
-  where
-    none : (b : Bool) → b && false ≡ false
-    none true = refl
-    none false = refl
+barrier d true = (bit d, and-false (eqb (d % 2) 0))
 barrier d false = (refl, refl)
 
 module _ (m : Machine) (s : Sound m) (on : m .started ≡ true) where
@@ -54,7 +50,7 @@ module _ (m : Machine) (s : Sound m) (on : m .started ≡ true) where
   delay-accepted : (v : ℕ) → v < 2 ^ 64 → free-runner m ≡ true → refusal m (cmd 4 0 0 v) ≡ 0
   unfolding refusal
   delay-accepted v h e =
-      let g = and-true (not (eqb (runner m) 0)) (eqb (hand m) 0) e in
+      let g = both-true (not (eqb (runner m) 0)) (eqb (hand m) 0) e in
       rw (lt-ltb v (2 ^ 64) h, on, not-true (eqb (runner m) 0) (g .0), g .1)
 
   advance-accepted : (v : ℕ) → m .clock + v < 2 ^ 64 → refusal m (cmd 6 0 0 v) ≡ 0
@@ -72,12 +68,12 @@ module _ (m : Machine) (s : Sound m) (on : m .started ≡ true) where
 
   takes : (d : ℕ) → free-runner m && not (empty (eligibles m)) ≡ true → Takes (pick m d)
   takes d e =
-      let f = and-true (free-runner m) (not (empty (eligibles m))) e in
-      let g = and-true (not (eqb (runner m) 0)) (eqb (hand m) 0) (f .0) in
+      let f = both-true (free-runner m) (not (empty (eligibles m))) e in
+      let g = both-true (not (eqb (runner m) 0)) (eqb (hand m) 0) (f .0) in
       let o = pick m d in
       let k = all-inside (λ x. (within 1 7 x ≡ true) × (eligible m x ≡ true)) (eligibles m) (d % length (eligibles m)) (sift-all (eligible m) (within 1 7) (1 ∷ 2 ∷ 3 ∷ 4 ∷ 5 ∷ 6 ∷ 7 ∷ []) (refl, (refl, (refl, (refl, (refl, (refl, (refl, tt)))))))) (mod-lt d (some (eligibles m) (f .1))) in
-      let a = and-true (declared m o && leb (at (m .base) (runner m)) (at (m .ceiling) o)) (not (leb 1 (count o (m .held)))) (k .1) in
-      let b = and-true (declared m o) (leb (at (m .base) (runner m)) (at (m .ceiling) o)) (a .0) in
+      let a = both-true (declared m o && leb (at (m .base) (runner m)) (at (m .ceiling) o)) (not (leb 1 (count o (m .held)))) (k .1) in
+      let b = both-true (declared m o) (leb (at (m .base) (runner m)) (at (m .ceiling) o)) (a .0) in
       record {
         in-range = k .0;
         there = not-true (eqb (at (m .ceiling) o) 0) (b .0);
@@ -105,7 +101,7 @@ module _ (m : Machine) (s : Sound m) (on : m .started ≡ true) where
 
   holds : (w : ℕ) → inside m w ≡ true → Holds w
   holds w e =
-      let f = and-true (not (eqb (hand m) 0)) (eqb (at (m .way) (runner m)) w) e in
+      let f = both-true (not (eqb (hand m) 0)) (eqb (at (m .way) (runner m)) w) e in
       let n : hand m ≢ 0 = eqb-false (hand m) 0 (not-true (eqb (hand m) 0) (f .0)) in
       let a = s .holder-admitted (runner m) (runner-known m s) n in
       let hi : hand m < 8 = object-known m s (hand m) (a .0) in
@@ -136,7 +132,7 @@ module _ (m : Machine) (s : Sound m) (on : m .started ≡ true) where
     pub fits : (c .a < 8) × (c .b < 2) × (c .value < 2 ^ 64)
 
   low : (o : ℕ) → within 1 7 o ≡ true → o < 8
-  low o e = let z : o ≤ 7 = leb-true _ _ (and-true (leb 1 o) (leb o 7) e .1) in omega arith
+  low o e = let z : o ≤ 7 = leb-true _ _ (both-true (leb 1 o) (leb o 7) e .1) in omega arith
 
   low-bit : (b : ℕ) → leb b 1 ≡ true → b < 2
   low-bit b e = let z : b ≤ 1 = leb-true _ _ e in omega arith
@@ -144,7 +140,7 @@ module _ (m : Machine) (s : Sound m) (on : m .started ≡ true) where
   pub legal-right : (span d2 d3 : ℕ) → 1 ≤ span → (i : ℕ) (k : Kind) → i < 8 → getD (menu m span d2 d3) i k .legal ≡ true → Right i (getD (menu m span d2 d3) i k .command)
   unfolding menu
   legal-right span d2 d3 h zero k l e =
-      let f = and-true (free-runner m) (span-fits m span) e in
+      let f = both-true (free-runner m) (span-fits m span) e in
       let t : m .clock + span < 2 ^ 64 = ltb-true _ _ (f .1) in
       let r : d2 % (span + 1) < span + 1 = mod-lt d2 (omega arith) in
       record { op = refl; accepted = delay-accepted (m .clock + d2 % (span + 1)) (omega arith) (f .0); fits = (omega arith, omega arith, omega arith) }

@@ -1,4 +1,4 @@
--- What is promised of the draw that is shipped: `drawnOf k seed p` is what `draw` answers (its contract is the equation), and `stepOn k c`
+-- What is promised of the draw that is shipped: `drawnOf k seed p` is what `draw` answers (its contract is the equation), and `stepped k c`
 -- what Kernel::step does. Each promise in plain words, and then in antt. Assumes nothing.
 use Prim.Native.Nat.{ℕ, zero, suc, _-_, _≤_, _<_, _^_}
 use native.Mathlib.Omega.{arith}
@@ -21,7 +21,7 @@ use Rattle.rules.proofs.Walk.{set-up}
 use Rattle.kernel.specs.declared.Kernel.{Kernel}
 use Rattle.kernel.specs.declared.command.Command.{Command}
 use Rattle.kernel.specs.View.{view, encode}
-use Rattle.kernel.specs.Public.{isSound, stepOf, said}
+use Rattle.kernel.specs.Public.{isSound, stepOf, stepped, said}
 use Rattle.kernel.proofs.Round.{view-encode}
 use Rattle.kernel.proofs.Written.{encode-sound, stands, step-sound}
 use Rattle.generator.specs.declared.Profile.{Profile}
@@ -29,7 +29,7 @@ use Rattle.generator.specs.declared.Drawn.{Drawn}
 use Rattle.generator.specs.Xorshift.{draw}
 use Rattle.generator.specs.Draw as draws
 use Rattle.generator.specs.Draw.{good-profile, draw-refusal, drawn}
-use Rattle.generator.specs.Public.{profileOf, toldDrawn, refusedOf, drawnIn, drawnOf, stepOn, drawsOf}
+use Rattle.generator.specs.Public.{profileOf, toldDrawn, refusedOf, drawnIn, drawnOf, drawsOf}
 use Rattle.generator.proofs.Theorems.{drawn-is-fine, seed-left, refused-draw, seed-lives, drawn-delay}
 
 -- The two ways of a draw: of a sound state it is the draw of the machine; any other is refused with 1.
@@ -75,11 +75,11 @@ code-in-order k seed p = go (ways k seed p)
 -- Unless the draw itself is refused, the kernel's step accepts what is drawn: from every state, seed and profile.
 -- Rules out: a delay drawn while inside an object, an entry with barrier 0 on an object with a waiter, a closing command of the wrong way.
 -- Leaves: a generator that always says wake (proofs/Theorems, each-kind-drawn), one that refuses every draw (code-in-order).
-pub drawn-accepted : (k : Kernel) (seed : ℕ) (p : Profile) → drawnOf k seed p .code ≡ 0 → stepOn k (drawnOf k seed p .command) .answer .code ≡ 0
+pub drawn-accepted : (k : Kernel) (seed : ℕ) (p : Profile) → drawnOf k seed p .code ≡ 0 → stepped k (drawnOf k seed p .command) .answer .code ≡ 0
 unfolding stepOf answer
 drawn-accepted k seed p e = go (ways k seed p)
   where
-    go : Tested k seed p → stepOn k (drawnOf k seed p .command) .answer .code ≡ 0
+    go : Tested k seed p → stepped k (drawnOf k seed p .command) .answer .code ≡ 0
     go (tested s q) = rw (q, s) (drawn-is-fine (view k) seed (profileOf p) (machine-sound k s) (sym (code-same q) ∙ e) .accepted)
     go (unsound s q) = absurd (omega (arith, code-same q))
 
@@ -143,11 +143,11 @@ next-on m s on c = go (step m s c)
     go (kept e f w) = rw e on
     go (carried e f w g) = rw e (stays-on m on (effect m c))
 
-step-on : (k : Kernel) → isSound k ≡ true → k .started ≡ true → (c : Command) → stepOn k c .next .started ≡ true
+step-on : (k : Kernel) → isSound k ≡ true → k .started ≡ true → (c : Command) → stepped k c .next .started ≡ true
 unfolding stepOf encode view
 step-on k s on c = rw s (next-on (view k) (stands k s .machine) on (said c))
 
-going-on : (k : Kernel) (seed : ℕ) (p : Profile) → Going k seed → Going (stepOn k (drawnOf k seed p .command) .next) (drawnOf k seed p .seed)
+going-on : (k : Kernel) (seed : ℕ) (p : Profile) → Going k seed → Going (stepped k (drawnOf k seed p .command) .next) (drawnOf k seed p .seed)
 going-on k seed p g =
     let c = drawnOf k seed p .command in
     let w = seed-never-dies k seed p (g .small) (g .alive) in
@@ -156,10 +156,10 @@ going-on k seed p g =
 -- From a sound started state, a seed 1..2^32-1 and a valid profile, draws go on for ever: behind any number of them, each with its step,
 -- the next draw is accepted and the step accepts what it draws. So no run of draws meets 1, 17, 18 or 2 in its middle.
 pub draws-go-on : (n : ℕ) (k : Kernel) (seed : ℕ) (p : Profile) → Going k seed → good-profile (profileOf p) ≡ true
-    → let e = drawsOf n k seed p in (drawnOf (e .0) (e .1) p .code ≡ 0) × (stepOn (e .0) (drawnOf (e .0) (e .1) p .command) .answer .code ≡ 0)
+    → let e = drawsOf n k seed p in (drawnOf (e .0) (e .1) p .code ≡ 0) × (stepped (e .0) (drawnOf (e .0) (e .1) p .command) .answer .code ≡ 0)
 unfolding drawsOf
 draws-go-on zero k seed p g good = let e = going-draw k seed p g good in (e, drawn-accepted k seed p e)
-draws-go-on (suc n) k seed p g good = draws-go-on n (stepOn k (drawnOf k seed p .command) .next) (drawnOf k seed p .seed) p (going-on k seed p g) good
+draws-go-on (suc n) k seed p g good = draws-go-on n (stepped k (drawnOf k seed p .command) .next) (drawnOf k seed p .seed) p (going-on k seed p g) good
 
 -- ## Document 01's numbers
 -- `seed 1 span 100 weights 10 10 10 10 10 10 10 10`, behind the five set-up lines of the walk: the drawn delay 39, and the third draw left as the seed.

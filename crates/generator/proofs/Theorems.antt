@@ -16,7 +16,7 @@ use Rattle.rules.specs.Refusals.{refusal}
 use Rattle.rules.specs.Sound.{sound}
 use Rattle.rules.specs.Run.{next, run}
 use Rattle.rules.proofs.Words.{cmd}
-use Rattle.rules.proofs.Tests.{and-true}
+use Rattle.rules.proofs.Tests.{both-true}
 use Rattle.rules.proofs.Sounds.{Sound, tests-sound}
 use Rattle.rules.proofs.Walk.{set-up}
 use Rattle.generator.specs.Xorshift.{draw}
@@ -48,16 +48,16 @@ menu-eight m span d2 d3 = refl
 module _ (m : Machine) (p : Profile) (s : sound m ≡ true) (on : m .started ≡ true) (good : good-profile p ≡ true) where
   in-range : (within 1 1000000 (p .span) ≡ true) × (1 ≤ at (p .weights) 1)
   in-range =
-      let g = and-true (within 1 1000000 (p .span) && every (λ w. leb w 100) (p .weights)) (leb 1 (at (p .weights) 1)) good in
-      (and-true (within 1 1000000 (p .span)) (every (λ w. leb w 100) (p .weights)) (g .0) .0, leb-true _ _ (g .1))
+      let g = both-true (within 1 1000000 (p .span) && every (λ w. leb w 100) (p .weights)) (leb 1 (at (p .weights) 1)) good in
+      (both-true (within 1 1000000 (p .span)) (every (λ w. leb w 100) (p .weights)) (g .0) .0, leb-true _ _ (g .1))
 
   spans : 1 ≤ p .span
-  spans = leb-true _ _ (and-true (leb 1 (p .span)) (leb (p .span) 1000000) (in-range .0) .0)
+  spans = leb-true _ _ (both-true (leb 1 (p .span)) (leb (p .span) 1000000) (in-range .0) .0)
 
   in-hundred : every (λ w. leb w 100) (p .weights) ≡ true
   in-hundred =
-      and-true (within 1 1000000 (p .span)) (every (λ w. leb w 100) (p .weights))
-      (and-true (within 1 1000000 (p .span) && every (λ w. leb w 100) (p .weights)) (leb 1 (at (p .weights) 1)) good .0) .1
+      both-true (within 1 1000000 (p .span)) (every (λ w. leb w 100) (p .weights))
+      (both-true (within 1 1000000 (p .span) && every (λ w. leb w 100) (p .weights)) (leb 1 (at (p .weights) 1)) good .0) .1
 
   inside-weights : (i : ℕ) → 1 ≤ at (p .weights) i → i < length (p .weights)
   inside-weights i h = go (ltb i (length (p .weights))) refl

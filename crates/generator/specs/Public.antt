@@ -4,10 +4,9 @@ use mathlib.Core.Path.{_≡_}
 use mathlib.Core.Bool.{cond}
 use Rattle.rules.specs.Machine as rules
 use Rattle.kernel.specs.declared.Kernel.{Kernel}
-use Rattle.kernel.specs.declared.Stepped.{Stepped}
 use Rattle.kernel.specs.declared.command.Command.{Command}
 use Rattle.kernel.specs.View.{view}
-use Rattle.kernel.specs.Public.{isSound, said, stepOf}
+use Rattle.kernel.specs.Public.{isSound, stepped}
 use Rattle.generator.specs.declared.Profile.{Profile}
 use Rattle.generator.specs.declared.Drawn.{Drawn}
 use Rattle.generator.specs.declared.Generator.{Generator}
@@ -36,14 +35,10 @@ drawnIn k seed p = toldDrawn (draw.drawn (view k) seed (profileOf p))
 unfoldable pub drawnOf : Kernel → ℕ → Profile → Drawn
 drawnOf k seed p = cond (isSound k) (drawnIn k seed p) (refusedOf 1 seed)
 
--- the kernel's step on a drawn command
-abbrev pub stepOn : Kernel → Command → Stepped
-stepOn k c = stepOf k (said c)
-
 -- n draws, each with its step: the state and the seed behind them.
 unfoldable pub drawsOf : ℕ → Kernel → ℕ → Profile → Kernel × ℕ
 drawsOf zero k seed p = (k, seed)
-drawsOf (suc n) k seed p = let d = drawnOf k seed p in drawsOf n (stepOn k (d .command) .next) (d .seed) p
+drawsOf (suc n) k seed p = let d = drawnOf k seed p in drawsOf n (stepped k (d .command) .next) (d .seed) p
 
 -- The lent form: the number drawn and the generator left behind;
 abbrev pub Advances : Generator → ℕ → Generator → Type 0

@@ -1,7 +1,7 @@
 -- Laws of copying: a table filled from its start, bytes that are written one part behind another, and a test of each byte of a part.
 -- Each is of one turn, or of a loop's start or end, over every width. Assumes nothing.
-use mathlib.Core.Path.{_≡_, refl, sym, ap, _∙_}
-use mathlib.Core.Bool.{Bool, true, false, _&&_}
+use mathlib.Core.Path.{_≡_, sym, ap, _∙_}
+use mathlib.Core.Bool.{Bool, _&&_, and-true, and-assoc}
 use mathlib.Core.List.{List, [], _∷_, _++_, append-assoc, append-nil}
 use Prim.Native.Nat.{ℕ, _+_, _≤_, _<_}
 use native.Mathlib.Nat.{add-assoc, add-zero, le-of-eq}
@@ -45,21 +45,13 @@ pub behind : (r q p v : List ℕ) → r ≡ q ++ v → q ≡ p → r ≡ p ++ v
 behind r q p v f e = f ∙ ap (λ (l : List ℕ). l ++ v) e
 
 -- A part t each of whose bytes is looked at.
-and-and : (a b c : Bool) → a && (b && c) ≡ (a && b) && c
-and-and true b c = refl
-and-and false b c = refl
-
-and-end : (a : Bool) → a && true ≡ a
-and-end true = refl
-and-end false = refl
-
 pub looked : (t : List ℕ) (b : Bool) (i x : ℕ) → i < length t → x ≡ getD t i 0 → zeros t ≡ b && zeros (drop i t) → zeros t ≡ (b && eqb x 0) && zeros (drop (i + 1) t)
 looked t b i x h ex e =
     rw (add-one, ex)
-    (e ∙ ap (λ (l : List ℕ). b && zeros l) (drop-cons t i 0 h) ∙ and-and b (eqb (getD t i 0) 0) _)
+    (e ∙ ap (λ (l : List ℕ). b && zeros l) (drop-cons t i 0 h) ∙ sym (and-assoc b (eqb (getD t i 0) 0) _))
 
 pub all-looked : (t : List ℕ) (b : Bool) (i : ℕ) → length t ≤ i → zeros t ≡ b && zeros (drop i t) → b ≡ zeros t
-all-looked t b i h e = sym (e ∙ ap (λ (l : List ℕ). b && zeros l) (drop-of-length-le t h) ∙ and-end b)
+all-looked t b i h e = sym (e ∙ ap (λ (l : List ℕ). b && zeros l) (drop-of-length-le t h) ∙ and-true b)
 
 -- A part: its size, and its bytes.
 pub part-size : (n at : ℕ) (s : List ℕ) → at + n ≤ length s → length (part n at s) ≡ n

@@ -1,10 +1,9 @@
 -- A number above 255 is out of range wherever it stands, so a command that has one is refused as one of op 0 is: by 4, after 1 and before all
 -- else. The idea: no row of the rules' table of operands has a number above 31 in a or b. Assumes nothing.
-use Prim.Native.Nat.{ℕ, _≤_, _<_}
+use Prim.Native.Nat.{ℕ, _<_}
 use native.Mathlib.Omega.{arith}
-use mathlib.Core.Path.{_≡_, refl, sym, ap, _∙_}
-use mathlib.Core.Logic.{_≢_}
-use mathlib.Core.Bool.{Bool, true, false, cond, not, _&&_, true≢false}
+use mathlib.Core.Path.{_≡_, refl, ap, _∙_}
+use mathlib.Core.Bool.{Bool, true, false, cond, _&&_, true≢false, and-false}
 use mathlib.Core.List.{List, [], _∷_}
 use lib.Dec.{eqb, leb}
 use lib.ListN.{length, replicate}
@@ -22,12 +21,8 @@ use Rattle.generator.specs.declared.Profile.{Profile}
 use Rattle.generator.specs.declared.Drawn.{Drawn}
 use Rattle.generator.specs.Draw.{good-profile, draw-refusal, drawn}
 use Rattle.generator.specs.Public.{profileOf, drawnIn, drawnOf}
-use Rattle.image.specs.Layout.{kernelOf, isImage}
+use Rattle.image.specs.Layout.{kernelOf}
 use Rattle.image.specs.Calls.{told, fitted, fittedTask, toldProfile, fittedProfile, drawOn}
-
-and-false : (b : Bool) → b && false ≡ false
-and-false true = refl
-and-false false = refl
 
 -- the rows of the table; an op above 11 has the row of no op
 abbrev rows : List Operands

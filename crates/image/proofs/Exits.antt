@@ -10,10 +10,8 @@ use native.Mathlib.Omega.{arith}
 use lib.Dec.{eqb}
 use borrow.Author.Tests.{eq-eqb, ne-eqb, eqb-true}
 use Rattle.rules.specs.Machine.{Command}
-use Rattle.rules.proofs.Tests.{and-true}
+use Rattle.rules.proofs.Tests.{both-true}
 use Rattle.kernel.specs.declared.Kernel.{Kernel}
-use Rattle.kernel.specs.declared.Stepped.{Stepped}
-use Rattle.kernel.specs.declared.Left.{Left}
 use Rattle.kernel.specs.Public.{isSound, report, shape, stepOf, leftOf}
 use Rattle.image.specs.Layout.{imageOf, kernelOf, clean, formed, isImage}
 use Rattle.generator.specs.declared.Profile.{Profile}
@@ -140,4 +138,4 @@ module _ (s : List ℕ) (seed span : ℕ) (weights : List ℕ) (value : ℕ) {r 
 -- such bytes are 512
 pub formed-size : (s : List ℕ) → formed s ≡ true → length s ≡ 512
 unfolding formed
-formed-size s h = eqb-true (length s) 512 (and-true (eqb (length s) 512) (clean s) h .0)
+formed-size s h = eqb-true (length s) 512 (both-true (eqb (length s) 512) (clean s) h .0)

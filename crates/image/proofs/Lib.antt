@@ -4,3 +4,4 @@ mod Cut
 mod Exits
 mod RoundTrip
 mod Theorems
+mod Single

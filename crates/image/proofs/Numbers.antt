@@ -3,13 +3,14 @@
 use mathlib.Core.Path.{_≡_, refl, sym, ap, _∙_}
 use mathlib.Core.List.{List, [], _∷_, _++_, append-assoc, append-nil}
 use Prim.Native.Nat.{ℕ, zero, suc, _+_, _*_, _≤_, _<_}
-use native.Mathlib.Nat.{add-assoc, le-of-eq}
+use native.Mathlib.Nat.{add-assoc, add-zero, le-of-eq}
 use native.Mathlib.Numerals.{add-one}
 use native.Mathlib.Omega.{arith}
-use lib.ListN.{length, take, drop, getD, length-append, length-drop}
-use lib.Seq.{take-suc, take-all, getD-drop, take-add, drop-drop}
+use lib.ListN.{length, take, drop, getD}
+use lib.Seq.{take-suc, take-all, getD-drop}
 use Rattle.record.specs.Form.{le8, ofLe}
-use Rattle.image.specs.Layout.{bytesOf, numbersOf}
+use Rattle.image.specs.Layout.{bytesOf, numbersOf, part}
+use Rattle.image.proofs.Copying.{part-at}
 
 pub bytes-snoc : (l : List ℕ) (x : ℕ) → bytesOf (l ++ (x ∷ [])) ≡ bytesOf l ++ le8 x
 unfolding bytesOf
@@ -37,6 +38,15 @@ number-behind n s at = same-sum (getD-drop n s at 0) (cell 1) (cell 2) (cell 3) 
   where
     cell : (j : ℕ) → getD (drop n s) (at + j) 0 ≡ getD s (n + at + j) 0
     cell j = getD-drop n s (at + j) 0 ∙ ap (λ (i : ℕ). getD s i 0) (sym (add-assoc n at j))
+
+-- A number as a part of 8 bytes.
+pub number-in : (at : ℕ) (s : List ℕ) → ofLe (part 8 at s) 0 ≡ ofLe s at
+number-in at s =
+    same-sum (cell 0 (omega arith) ∙ ap (λ (i : ℕ). getD s i 0) (add-zero at)) (cell 1 (omega arith)) (cell 2 (omega arith)) (cell 3 (omega arith)) (cell 4 (omega arith))
+    (cell 5 (omega arith)) (cell 6 (omega arith)) (cell 7 (omega arith))
+  where
+    cell : (j : ℕ) → j < 8 → getD (part 8 at s) j 0 ≡ getD s (at + j) 0
+    cell = part-at 8 at s
 
 pub number-at : (n : ℕ) (s : List ℕ) (i : ℕ) → i < n → getD (numbersOf n s) i 0 ≡ ofLe s (8 * i)
 unfolding numbersOf

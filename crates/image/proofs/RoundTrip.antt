@@ -12,7 +12,7 @@ use lib.Dec.{eqb, leb}
 use borrow.Author.Tests.{eqb-true, eqb-false, leb-true}
 use Rattle.rules.specs.Line.{one-if}
 use Rattle.rules.proofs.Words.{All}
-use Rattle.rules.proofs.Tests.{and-true}
+use Rattle.rules.proofs.Tests.{both-true}
 use Rattle.line.specs.Tables.{zeros}
 use Rattle.record.specs.Form.{le8, ofLe}
 use Rattle.record.proofs.Digits.{value-back, bytes-back}
@@ -50,7 +50,7 @@ module _ (s v t : List ℕ) (at n : ℕ) (e : drop at s ≡ v ++ t) (l : length 
   next : drop (at + n) s ≡ t
   next = sym (drop-drop n at s) ∙ ap (drop n) e ∙ drop-at v t n l
 
-made : {a a′ b b′ c c′ d d′ e e′ f f′ g g′ h h′ : List ℕ} {n n′ : ℕ} {o o′ : Bool} → a ≡ a′ → b ≡ b′ → c ≡ c′ → d ≡ d′ → e ≡ e′ → f ≡ f′ → g ≡ g′ → h ≡ h′ → n ≡ n′ → o ≡ o′
+pub made : {a a′ b b′ c c′ d d′ e e′ f f′ g g′ h h′ : List ℕ} {n n′ : ℕ} {o o′ : Bool} → a ≡ a′ → b ≡ b′ → c ≡ c′ → d ≡ d′ → e ≡ e′ → f ≡ f′ → g ≡ g′ → h ≡ h′ → n ≡ n′ → o ≡ o′
     → _≡_ {A = Kernel} (record { base = a; ready = b; delayed = c; held = d; way = e; until = f; ceiling = g; waiter = h; clock = n; started = o })
     (record { base = a′; ready = b′; delayed = c′; held = d′; way = e′; until = f′; ceiling = g′; waiter = h′; clock = n′; started = o′ })
 made p q r s t u v w x y = cc
@@ -135,7 +135,7 @@ zeros-are [] zero e h = refl
 zeros-are [] (suc n) e h = absurd (omega arith)
 zeros-are (x ∷ l) zero e h = absurd (omega arith)
 zeros-are (x ∷ l) (suc n) e h =
-    let w = and-true (eqb x 0) (zeros l) h in
+    let w = both-true (eqb x 0) (zeros l) h in
     rw (eqb-true x 0 (w .0), zeros-are l n (omega arith) (w .1))
 
 -- one part more
@@ -153,9 +153,9 @@ module _ (s : List ℕ) (l : length s ≡ 512) (small : Bytes s) (h : clean s �
   unused : (leb (getD s 8 0) 1 ≡ true) × (zeros (part 7 9 s) ≡ true) × (zeros (part 32 192 s) ≡ true) × (zeros (part 32 224 s) ≡ true)
   unfolding clean
   unused =
-      let w = and-true (leb (getD s 8 0) 1 && zeros (part 7 9 s) && zeros (part 32 192 s)) (zeros (part 32 224 s)) h in
-      let v = and-true (leb (getD s 8 0) 1 && zeros (part 7 9 s)) (zeros (part 32 192 s)) (w .0) in
-      let u = and-true (leb (getD s 8 0) 1) (zeros (part 7 9 s)) (v .0) in
+      let w = both-true (leb (getD s 8 0) 1 && zeros (part 7 9 s) && zeros (part 32 192 s)) (zeros (part 32 224 s)) h in
+      let v = both-true (leb (getD s 8 0) 1 && zeros (part 7 9 s)) (zeros (part 32 192 s)) (w .0) in
+      let u = both-true (leb (getD s 8 0) 1) (zeros (part 7 9 s)) (v .0) in
       (u .0, u .1, v .1, w .1)
 
   started-again : part 8 8 s ≡ flags (eqb (getD s 8 0) 1)

@@ -3,7 +3,7 @@
 use Prim.Native.Nat.{ℕ, zero, suc, _+_, _*_, _/_, _%_, _<_, _^_}
 use native.Mathlib.Omega.{arith}
 use mathlib.Core.Path.{_≡_, refl, sym, ap, _∙_, subst}
-use mathlib.Core.Logic.{_≢_, ⊎-elim}
+use mathlib.Core.Logic.{_≢_}
 use mathlib.Core.Bool.{Bool, true, false, cond, not, _&&_, true≢false}
 use mathlib.Core.List.{List, [], _∷_}
 use lib.ListN.{length, replicate}
@@ -15,17 +15,17 @@ use Rattle.rules.specs.Refusals.{first-number}
 use Rattle.rules.specs.Run.{next, answer, run}
 use Rattle.rules.specs.Run as rules
 use Rattle.rules.proofs.Words.{All}
-use Rattle.rules.proofs.Lists.{all-set, eq-or-ne}
-use Rattle.rules.proofs.Tests.{and-true}
+use Rattle.rules.proofs.Lists.{all-set}
+use Rattle.rules.proofs.Tests.{both-true}
 use Rattle.rules.proofs.Sounds.{tests-sound}
 use Rattle.rules.proofs.Step.{fresh-sound, run-sound}
 use Rattle.rules.proofs.Walk.{set-up}
 use Rattle.kernel.specs.declared.Kernel.{Kernel}
 use Rattle.kernel.specs.declared.command.Answer.{Answer}
 use Rattle.kernel.specs.View.{view, encode, times}
-use Rattle.kernel.specs.Public.{isSound, stepOf, leftOf}
+use Rattle.kernel.specs.Public.{isSound, stepOf}
 use Rattle.kernel.proofs.Round.{view-encode}
-use Rattle.kernel.proofs.Written.{Stands, stands, encode-sound, step-on, step-sound, refused-keeps}
+use Rattle.kernel.proofs.Written.{stands, encode-sound, step-on, step-sound, refused-keeps}
 use Rattle.generator.specs.declared.Profile.{Profile}
 use Rattle.generator.specs.declared.Drawn.{Drawn}
 use Rattle.generator.specs.Draw.{good-profile, drawn}
@@ -33,7 +33,7 @@ use Rattle.generator.specs.Public.{profileOf, toldDrawn, refusedOf, drawnIn, dr
 use Rattle.generator.proofs.Theorems.{drawn-is-fine}
 use Rattle.generator.proofs.Shipped.{code-in-order, drawn-accepted, draws-39}
 use Rattle.image.specs.Layout.{imageOf, kernelOf, clean, formed, isImage}
-use Rattle.image.specs.Calls.{told, packed, packedLeft, stepAnswer, stepImage, freshAnswer, freshImage, leftAnswer, toldProfile, drawOn, packedDrawn, drawAnswer, drawSeed, drawValue}
+use Rattle.image.specs.Calls.{told, packed, stepAnswer, stepImage, freshAnswer, freshImage, toldProfile, drawOn, packedDrawn, drawAnswer, drawSeed, drawValue}
 use Rattle.image.proofs.Exits.{left-alone}
 use Rattle.image.proofs.RoundTrip.{Bytes, image-size, image-back, bytes-are}
 
@@ -71,8 +71,8 @@ reads-back k e =
 pub one-image : (s : List ℕ) → Bytes s → isImage s ≡ true → imageOf (kernelOf s) ≡ s
 unfolding isImage formed
 one-image s small e =
-    let w = and-true (formed s) (isSound (kernelOf s)) e in
-    let v = and-true (eqb (length s) 512) (clean s) (w .0) in
+    let w = both-true (formed s) (isSound (kernelOf s)) e in
+    let v = both-true (eqb (length s) 512) (clean s) (w .0) in
     bytes-are s (eqb-true (length s) 512 (v .0)) small (v .1)
 
 pub same-bytes : (s t : List ℕ) → Bytes s → Bytes t → isImage s ≡ true → isImage t ≡ true → kernelOf s ≡ kernelOf t → s ≡ t
@@ -108,7 +108,7 @@ steps-machine m c e =
 -- what an image says of its state
 image-sound : (s : List ℕ) → isImage s ≡ true → isSound (kernelOf s) ≡ true
 unfolding isImage
-image-sound s e = and-true (formed s) (isSound (kernelOf s)) e .1
+image-sound s e = both-true (formed s) (isSound (kernelOf s)) e .1
 
 -- ## An image stays an image, and so over any calls
 pub stays-image : (s : List ℕ) (c : Command) → isImage s ≡ true → isImage (stepImage s c) ≡ true
@@ -231,22 +231,3 @@ draws-39-there =
     let k = encode (run fresh set-up) in
     let q = draws-state k 1 (toldProfile 100 (10 ∷ 10 ∷ 10 ∷ 10 ∷ 10 ∷ 10 ∷ 10 ∷ 10 ∷ [])) (encode-sound (run fresh set-up) (run-sound set-up fresh fresh-sound)) ∙ draws-39 in
     (ap packedDrawn q, ap (λ (d : Drawn). d .seed) q, ap (λ (d : Drawn). cond (eqb (d .code) 0) (d .command .value) 0) q)
-
--- ## No second answer
--- What a call's contract says of its answer and of what it was lent, only one value meets.
-one : {A : Type 0} {d r q : A} → r ≡ d → q ≡ d → r ≡ q
-one e f = e ∙ sym f
-
-pub step-single : (s : List ℕ) (c : Command) (r q : ℕ) (t u : List ℕ) → (r ≡ stepAnswer s c) × (t ≡ stepImage s c) → (q ≡ stepAnswer s c) × (u ≡ stepImage s c) → (r ≡ q) × (t ≡ u)
-step-single s c r q t u e f = (one (e .0) (f .0), one (e .1) (f .1))
-
-pub fresh-single : (s : List ℕ) (r q : ℕ) (t u : List ℕ) → (r ≡ freshAnswer s) × (t ≡ freshImage s) → (q ≡ freshAnswer s) × (u ≡ freshImage s) → (r ≡ q) × (t ≡ u)
-fresh-single s r q t u e f = (one (e .0) (f .0), one (e .1) (f .1))
-
-pub left-single : (s : List ℕ) (t r q : ℕ) → r ≡ leftAnswer s t → q ≡ leftAnswer s t → r ≡ q
-left-single s t r q = one
-
-pub draw-single : (s : List ℕ) (seed span : ℕ) (w : List ℕ) (value r q x y v u : ℕ)
-    → (r ≡ drawAnswer s seed span w) × (x ≡ drawSeed s seed span w) × (v ≡ drawValue s seed span w value)
-    → (q ≡ drawAnswer s seed span w) × (y ≡ drawSeed s seed span w) × (u ≡ drawValue s seed span w value) → (r ≡ q) × (x ≡ y) × (v ≡ u)
-draw-single s seed span w value r q x y v u e f = (one (e .0) (f .0), one (e .1) (f .1), one (e .2) (f .2))

@@ -5,9 +5,11 @@ ghost use Prim.Native.Nat.{_+_, _≤_, _<_};
 ghost use lib.ListN.{length, take, drop};
 ghost use Rattle.rules.specs.Line.{one-if};
 ghost use Rattle.line.specs.Tables.{zeros};
-ghost use Rattle.record.specs.Form.{le8, ofLe};
+ghost use Rattle.record.specs.Form.{ofLe};
 ghost use Rattle.image.specs.Layout.{bytesOf, numbersOf, imageOf, part, kernelOf, clean, formed};
 use kernel::Kernel;
+use record::number_bytes;
+use record::number_of;
 
 // ---- Writing: what is written so far grows at its end.
 
@@ -40,22 +42,6 @@ fn put32(s: &mut [u8; 512], at: usize, v: [u8; 32])
     }
 }
 
-// A number's 8 bytes, least first.
-fn bytes_of(x: u64) -> [u8; 8]
-    ensures { λ r. ⌜ r ≡ le8 x ⌝ }
-{
-    [
-        (x % 256) as u8,
-        (x / 256 % 256) as u8,
-        (x / 65536 % 256) as u8,
-        (x / 16777216 % 256) as u8,
-        (x / 4294967296 % 256) as u8,
-        (x / 1099511627776 % 256) as u8,
-        (x / 281474976710656 % 256) as u8,
-        (x / 72057594037927936 % 256) as u8,
-    ]
-}
-
 // The times, from byte 256 to the end.
 fn put_times(s: &mut [u8; 512], v: [u64; 32])
     requires { ⌜ length (now s) ≡ 512 ⌝ }
@@ -63,7 +49,7 @@ fn put_times(s: &mut [u8; 512], v: [u64; 32])
 {
     let mut i: usize = 0;
     while i < 32 {
-        put8(s, 256 + 8 * i, bytes_of(v[i]));
+        put8(s, 256 + 8 * i, number_bytes(v[i]));
         i += 1;
     }
 }
@@ -74,11 +60,11 @@ fn flag(b: bool) -> u8
     if b { 1 } else { 0 }
 }
 
-pub fn encode(k: Kernel) -> [u8; 512]
+pub(crate) fn encode(k: Kernel) -> [u8; 512]
     ensures { λ r. ⌜ r ≡ imageOf k ⌝ }
 {
     let mut s = [0u8; 512];
-    put8(&mut s, 0, bytes_of(k.clock));
+    put8(&mut s, 0, number_bytes(k.clock));
     put8(&mut s, 8, [flag(k.started), 0, 0, 0, 0, 0, 0, 0]);
     let ceiling = k.ceiling;
     put8(&mut s, 16, ceiling);
@@ -103,34 +89,6 @@ pub fn encode(k: Kernel) -> [u8; 512]
 
 // ---- Reading
 
-fn wide(x: u8) -> u64
-    ensures { λ r. ⌜ (r ≡ x) × (r < 256) ⌝ }
-{
-    x as u64
-}
-
-fn get_number(s: &[u8], at: usize) -> u64
-    requires { ⌜ at + 8 ≤ length (now s) ⌝ }
-    ensures { λ r. ⌜ r ≡ ofLe (now (s .entry)) at ⌝ }
-{
-    let b0 = wide(s[at]);
-    let b1 = wide(s[at + 1]);
-    let b2 = wide(s[at + 2]);
-    let b3 = wide(s[at + 3]);
-    let b4 = wide(s[at + 4]);
-    let b5 = wide(s[at + 5]);
-    let b6 = wide(s[at + 6]);
-    let b7 = wide(s[at + 7]);
-    b0
-        + 256 * b1
-        + 65536 * b2
-        + 16777216 * b3
-        + 4294967296 * b4
-        + 1099511627776 * b5
-        + 281474976710656 * b6
-        + 72057594037927936 * b7
-}
-
 fn get8(s: &[u8], at: usize) -> [u8; 8]
     requires { ⌜ at + 8 ≤ length (now s) ⌝ }
     ensures { λ r. ⌜ r ≡ part 8 at (now (s .entry)) ⌝ }
@@ -142,6 +100,13 @@ fn get8(s: &[u8], at: usize) -> [u8; 8]
         i += 1;
     }
     r
+}
+
+fn get_number(s: &[u8], at: usize) -> u64
+    requires { ⌜ at + 8 ≤ length (now s) ⌝ }
+    ensures { λ r. ⌜ r ≡ ofLe (now (s .entry)) at ⌝ }
+{
+    number_of(get8(s, at))
 }
 
 fn get32(s: &[u8], at: usize) -> [u8; 32]

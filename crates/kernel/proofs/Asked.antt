@@ -6,7 +6,7 @@ use native.Mathlib.Omega.{arith}
 use mathlib.Core.Path.{_≡_, refl, sym, ap, _∙_}
 use mathlib.Core.Logic.{_≢_, ⊎-elim}
 use mathlib.Core.List.{List, [], _∷_}
-use mathlib.Core.Bool.{Bool, true, false, cond, _&&_, _||_}
+use mathlib.Core.Bool.{Bool, true, false, cond, _&&_, _||_, or-false}
 use lib.ListN.{length}
 use lib.Dec.{eqb, leb}
 use borrow.Author.Tests.{eqb-true, eqb-false, ne-eqb, eq-eqb, lt-ltb}
@@ -63,10 +63,6 @@ module _ (t : ℕ) (real : t ≢ 0) where
   due-there u now [] r c o = absurd (omega arith)
   due-there u now (e ∷ l) r c o = go (eqb t (e .1)) refl c o (due-there u now l (r .1))
     where
-      or-false : (b : Bool) → b || false ≡ b
-      or-false true = refl
-      or-false false = refl
-
       go : (b : Bool) → eqb t (e .1) ≡ b → 1 ≤ one-if b + count t (tasks l) → one-if b + count t (tasks l) ≤ 1 → (1 ≤ count t (tasks l) → count t (tasks l) ≤ 1 → is-due now t l ≡ leb (at u t) now)
           → eqb (e .1) t && leb (e .0) now || is-due now t l ≡ leb (at u t) now
       go true q c o ih =

@@ -1,23 +1,21 @@
--- The two ends of a step of a sound state: refused, with the number that the code found; or accepted, and carried out. Assumes nothing.
+-- The two ends of a step on tables: refused, with the number that the code found; or accepted, and carried out. Assumes nothing.
 use Prim.Native.Nat.{ℕ}
 use mathlib.Core.Path.{_≡_, ap, sym}
 use mathlib.Core.Logic.{_≢_}
-use mathlib.Core.Bool.{true, cond}
+use mathlib.Core.Bool.{cond}
 use borrow.Author.Tests.{eq-eqb, ne-eqb}
 use Rattle.rules.specs.Machine.{Command}
 use Rattle.kernel.specs.declared.Kernel.{Kernel}
-use Rattle.kernel.specs.Public.{isSound, stepOf}
 use Rattle.kernel.specs.Step.{first, refused, refusal-on, carriedOf, steppedOf}
-use Rattle.kernel.proofs.Whole.{step-meets}
 
-module _ (k : Kernel) (c : Command) (n : ℕ) (s : isSound k ≡ true) (e : n ≡ refusal-on k c) where
-  pub refused-end : n ≢ 0 → record { next = k; answer = refused n (cond (k .started) (first k) 0) } ≡ stepOf k c
+module _ (k : Kernel) (c : Command) (n : ℕ) (e : n ≡ refusal-on k c) where
+  pub refused-end : n ≢ 0 → record { next = k; answer = refused n (cond (k .started) (first k) 0) } ≡ steppedOf k c
   unfolding steppedOf
-  refused-end h = rw (← step-meets k c s, ← e, ne-eqb n 0 h)
+  refused-end h = rw (← e, ne-eqb n 0 h)
 
-  pub accepted-end : n ≡ 0 → carriedOf k c ≡ stepOf k c
+  pub accepted-end : n ≡ 0 → carriedOf k c ≡ steppedOf k c
   unfolding steppedOf
-  accepted-end h = rw (← step-meets k c s, ← e, eq-eqb n 0 h)
+  accepted-end h = rw (← e, eq-eqb n 0 h)
 
 -- a command that is carried out as its op says
 pub as-op : (k : Kernel) (c : Command) (n : ℕ) → c .op ≡ n → carriedOf k (record { op = n; a = c .a; b = c .b; value = c .value }) ≡ carriedOf k c

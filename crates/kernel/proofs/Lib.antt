@@ -5,7 +5,10 @@ pub mod Written
 pub mod Rows
 pub mod Whole
 pub mod Asked
+pub mod Reading
 pub mod Marks
+pub mod Standing
+pub mod Passed
 pub mod Tested
 pub mod Question
 pub mod Ends

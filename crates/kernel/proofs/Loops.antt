@@ -20,10 +20,6 @@ past-end clock n h = go (ltb (clock + n) (2 ^ 64)) refl
     go true e = let z : clock + n < 2 ^ 64 = ltb-true _ _ e in le-ltb (18446744073709551615 - clock) n (omega arith)
     go false e = let z : 2 ^ 64 ≤ clock + n = ltb-false _ _ e in lt-ltb (18446744073709551615 - clock) n (omega arith)
 
-pub and-yes : (b : Bool) → b && true ≡ b
-and-yes true = refl
-and-yes false = refl
-
 -- what is none of the ops 1..11
 up : (k op : ℕ) → k ≤ op → op ≢ k → suc k ≤ op
 up k op h n = omega arith

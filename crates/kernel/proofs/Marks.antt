@@ -13,7 +13,7 @@ use borrow.Author.Tests.{eqb-true, eqb-false, ne-eqb, eq-eqb, lt-leb, leb-false,
 use Rattle.rules.specs.Line.{at, count, one-if}
 use Rattle.rules.proofs.Words.{All, Pairwise}
 use Rattle.rules.proofs.Lists.{all-map, eq-or-ne, set-either}
-use Rattle.rules.proofs.Tests.{Tests, tests-and, tests-le, tests-ne, and-true}
+use Rattle.rules.proofs.Tests.{Tests, tests-and, tests-le, tests-ne, both-true}
 use Rattle.line.specs.Tables.{no-task, ordered, met, marks}
 use Rattle.kernel.specs.View.{live}
 use Rattle.soundness.specs.Test.{admits, holdersFit}
@@ -160,9 +160,9 @@ module _ (ceiling : List ℕ) where
           let z : x ≡ 0 = eqb-true x 0 f in
           record { each = each-cons (λ o c. (o < 8) × Admitted ceiling o c) x b held base (λ n. absurd (n z)) (w .each); single = λ o n l. (let y : one-if (eqb o x) ≡ 0 = rw (ne-eqb o x (λ k. n (k ∙ z))) in omega (arith, w .single o n l)) }
       go false f q ih =
-          let q1 = and-true (not (leb 8 x) && (eqb (at taken x) 0 && admits (at ceiling x) b)) (holdersFit ceiling (set taken x 1) base held) q in
-          let q2 = and-true (not (leb 8 x)) (eqb (at taken x) 0 && admits (at ceiling x) b) (q1 .0) in
-          let q3 = and-true (eqb (at taken x) 0) (admits (at ceiling x) b) (q2 .1) in
+          let q1 = both-true (not (leb 8 x) && (eqb (at taken x) 0 && admits (at ceiling x) b)) (holdersFit ceiling (set taken x 1) base held) q in
+          let q2 = both-true (not (leb 8 x)) (eqb (at taken x) 0 && admits (at ceiling x) b) (q1 .0) in
+          let q3 = both-true (eqb (at taken x) 0) (admits (at ceiling x) b) (q2 .1) in
           let low : x < 8 = leb-false 8 x (not-true _ (q2 .0)) in
           let none : at taken x ≡ 0 = eqb-true _ _ (q3 .0) in
           let w = ih (set taken x 1) (length-set taken x 1 ∙ h) (more-taken taken x u) (q1 .1) in

@@ -12,7 +12,7 @@ use borrow.Author.Tests.{eqb-true, eqb-false, ne-eqb, le-leb}
 use Rattle.rules.specs.Line.{at, count, place, front, one-if}
 use Rattle.rules.specs.Machine.{tasks}
 use Rattle.rules.proofs.Words.{All}
-use Rattle.rules.proofs.Tests.{and-true}
+use Rattle.rules.proofs.Tests.{both-true}
 use Rattle.line.specs.Tables.{ended, zeros}
 use Rattle.kernel.specs.View.{live, with-idle, timed, nobody-or, pad, times}
 
@@ -44,19 +44,19 @@ pad-more (suc n) (x ∷ l) h = ap (λ (l : List ℕ). x ∷ l) (pad-more n l (om
 -- A line whose free places are at its end: behind a free place all are free.
 ended-rest : (x : ℕ) (l : List ℕ) → ended (x ∷ l) ≡ true → ended l ≡ true
 ended-rest x [] h = refl
-ended-rest x (y ∷ l) h = and-true (not (eqb x 0) || eqb y 0) (ended (y ∷ l)) h .1
+ended-rest x (y ∷ l) h = both-true (not (eqb x 0) || eqb y 0) (ended (y ∷ l)) h .1
 
 ended-zeros : (x : ℕ) (l : List ℕ) → x ≡ 0 → ended (x ∷ l) ≡ true → zeros l ≡ true
 ended-zeros x [] e h = refl
 ended-zeros x (y ∷ l) e h =
-    let w = and-true (not (eqb x 0) || eqb y 0) (ended (y ∷ l)) h in
+    let w = both-true (not (eqb x 0) || eqb y 0) (ended (y ∷ l)) h in
     let f : eqb y 0 ≡ true = rw e at (w .0) in
     rw (f, ended-zeros y l (eqb-true y 0 f) (w .1))
 
 zeros-ended : (l : List ℕ) → zeros l ≡ true → ended (0 ∷ l) ≡ true
 zeros-ended [] h = refl
 zeros-ended (y ∷ l) h =
-    let w = and-true (eqb y 0) (zeros l) h in
+    let w = both-true (eqb y 0) (zeros l) h in
     let e : y ≡ 0 = eqb-true y 0 (w .0) in
     rw (e, zeros-ended l (w .1))
 
@@ -67,7 +67,7 @@ ended-cons x (y ∷ l) n h = rw (ne-eqb x 0 n, h)
 free-pad : (l : List ℕ) → zeros l ≡ true → pad (length l) [] ≡ l
 free-pad [] h = refl
 free-pad (x ∷ l) h =
-    let w = and-true (eqb x 0) (zeros l) h in
+    let w = both-true (eqb x 0) (zeros l) h in
     rw (free-pad l (w .1), eqb-true x 0 (w .0))
 
 -- Writing what was read.
@@ -129,7 +129,7 @@ pub times-size : (l : List (ℕ × ℕ)) → length (times l) ≡ 32
 times-size [] = refl
 times-size (e ∷ l) = length-set (times l) (e .1) (e .0) ∙ times-size l
 
-free-at : (n t : ℕ) → at (replicate n 0) t ≡ 0
+pub free-at : (n t : ℕ) → at (replicate n 0) t ≡ 0
 free-at zero t = refl
 free-at (suc n) zero = refl
 free-at (suc n) (suc t) = free-at n t

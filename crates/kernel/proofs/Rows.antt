@@ -23,7 +23,7 @@ use Rattle.rules.proofs.Kept.{MayLeave, MayAwait}
 use Rattle.rules.proofs.SetUp.{MayCreate}
 use Rattle.line.specs.Tables.{shift, place, pop, lower, later}
 use Rattle.kernel.specs.View.{pad, times, encode}
-use Rattle.kernel.specs.Step.{first, answered, createdOf, declaredOf, begunOf, yieldedOf, sleptOf, wokenOf, advancedOf, heldOf, servedOf, closedOf, awaitingOf}
+use Rattle.kernel.specs.Step.{answered, createdOf, declaredOf, begunOf, yieldedOf, sleptOf, wokenOf, advancedOf, heldOf, servedOf, closedOf, awaitingOf}
 use Rattle.kernel.proofs.Padded.{pad-zero, front-pad, pad-more, Right, Own, own-right, times-place, times-drop, map-set}
 use Rattle.kernel.proofs.Round.{sound-own, act-zero, delayed-tasks, not-idle}
 

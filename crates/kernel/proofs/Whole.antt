@@ -6,7 +6,7 @@ use native.Mathlib.Omega.{arith}
 use mathlib.Core.Path.{_≡_, refl, sym, ap, _∙_, subst}
 use mathlib.Core.Logic.{_≢_}
 use mathlib.Core.List.{List, [], _∷_, map}
-use mathlib.Core.Bool.{Bool, true, false, cond, not, _&&_, _||_, true≢false}
+use mathlib.Core.Bool.{Bool, true, false, cond, not, _&&_, true≢false, or-false, Bool·not-not}
 use lib.ListN.{getD, List·getD-map}
 use lib.Dec.{eqb, leb, ltb}
 use borrow.Author.Tests.{eqb-true, ne-eqb, lt-ltb, leb-true, not-false}
@@ -17,7 +17,7 @@ use Rattle.rules.specs.Table.{Out, same, take, yield, close, sleep, await, none
 use Rattle.rules.specs.Refusals.{refusal, fits, operands}
 use Rattle.rules.specs.Run.{next, released, answer}
 use Rattle.rules.proofs.Words.{All, cmd}
-use Rattle.rules.proofs.Tests.{and-true}
+use Rattle.rules.proofs.Tests.{both-true}
 use Rattle.rules.proofs.Sounds.{Sound}
 use Rattle.rules.proofs.Kept.{AllowedOut, release-sound}
 use Rattle.rules.proofs.Accepted.{check-passed, allowed}
@@ -26,7 +26,7 @@ use Rattle.kernel.specs.declared.Kernel.{Kernel}
 use Rattle.kernel.specs.declared.Stepped.{Stepped}
 use Rattle.kernel.specs.View.{encode, view, times, pad}
 use Rattle.kernel.specs.Public.{isSound, report, stepOf}
-use Rattle.kernel.specs.Step.{first, answered, dueOf, wakeOf, closepOf, carriedOf, refusedOf, refusal-on, refused, refused-formed, steppedOf, advancedOf, wokenOf, closedOf, servedOf, sleptOf, yieldedOf, heldOf, awaitingOf}
+use Rattle.kernel.specs.Step.{first, answered, dueOf, wakeOf, closepOf, carriedOf, refusalOf, refusal-on, refused, refusal-formed, steppedOf, advancedOf, wokenOf, closedOf, servedOf, sleptOf, yieldedOf, heldOf, awaitingOf}
 use Rattle.kernel.proofs.Padded.{front-pad, Right, own-right}
 use Rattle.kernel.proofs.Round.{waiting-tasks, delayed-tasks, sound-own}
 use Rattle.kernel.proofs.Written.{stands, step-on}
@@ -55,20 +55,12 @@ module _ (m : Machine) (s : Sound m) where
   nobody [] h = refl
   nobody (x ∷ q) h = ne-eqb x 0 (h .0)
 
-  not-not : (b : Bool) → not (not b) ≡ b
-  not-not true = refl
-  not-not false = refl
-
-  or-false : (b : Bool) → b || false ≡ b
-  or-false true = refl
-  or-false false = refl
-
   -- The checks over what they look at are the rules' checks.
   pub refusal-tie : (c : Command) → refusal-on (encode m) c ≡ refusal m c
-  unfolding refusedOf refused-formed refusal encode
+  unfolding refusalOf refusal-formed refusal encode
   refusal-tie c =
       let w : eqb (at (map (front 0) (m .queue)) (c .a)) 0 ≡ empty (getD (m .queue) (c .a) []) = ap (λ (x : ℕ). eqb x 0) (List·getD-map (front 0) (m .queue) (c .a) []) ∙ nobody (getD (m .queue) (c .a) []) (waiting-tasks m s (c .a)) in
-      rw (front-pad 31 (m .ready), w, not-not (eqb (at (m .ceiling) (c .a)) 0), or-false (eqb (c .op) 10), or-false (eqb (c .op) 9))
+      rw (front-pad 31 (m .ready), w, Bool·not-not (eqb (at (m .ceiling) (c .a)) 0), or-false (eqb (c .op) 10), or-false (eqb (c .op) 9))
 
 -- Wake: the first of the delay line, if it is due.
 due-of : (l : List (ℕ × ℕ)) (u : List ℕ) (now : ℕ) → All (Right u) l → All (λ x. (x < 32) × (x ≢ 0)) (tasks l)
@@ -138,10 +130,10 @@ module _ (m : Machine) (s : Sound m) where
 
   unknown : {A : Type 0} (op a b v : ℕ) → refusal m (cmd op a b v) ≡ 0 → (1 ≤ op → op ≤ 11 → ⊥) → A
   unknown op a b v ok n =
-      let f = and-true (within 1 11 op && fits (operands op .a) a && fits (operands op .b) b) (fits (operands op .value) v) (not-false _ (check-passed m (cmd op a b v) ok 4)) .0 in
-      let g = and-true (within 1 11 op && fits (operands op .a) a) (fits (operands op .b) b) f .0 in
-      let h = and-true (within 1 11 op) (fits (operands op .a) a) g .0 in
-      let k = and-true (leb 1 op) (leb op 11) h in
+      let f = both-true (within 1 11 op && fits (operands op .a) a && fits (operands op .b) b) (fits (operands op .value) v) (not-false _ (check-passed m (cmd op a b v) ok 4)) .0 in
+      let g = both-true (within 1 11 op && fits (operands op .a) a) (fits (operands op .b) b) f .0 in
+      let h = both-true (within 1 11 op) (fits (operands op .a) a) g .0 in
+      let k = both-true (leb 1 op) (leb op 11) h in
       absurd (n (leb-true _ _ (k .0)) (leb-true _ _ (k .1)))
 
   delay-row : (v : ℕ) (b : Bool) → AllowedOut m (cond b (sleep v) yield) → cond b (sleptOf (encode m) v) (yieldedOf (encode m)) ≡ answered (encode (carry m (moves (cond b (sleep v) yield) none 0))) 0

@@ -13,7 +13,7 @@ use Rattle.rules.specs.Machine.{Machine, Command, tasks}
 use Rattle.rules.specs.Sound.{sound}
 use Rattle.rules.specs.Refusals.{refusal}
 use Rattle.rules.specs.Run.{next, answer}
-use Rattle.rules.proofs.Tests.{and-true}
+use Rattle.rules.proofs.Tests.{both-true}
 use Rattle.line.specs.Tables.{ended}
 use Rattle.rules.proofs.Lists.{lt-or-ge}
 use Rattle.rules.proofs.Sounds.{Sound, tests-sound}
@@ -67,7 +67,7 @@ pub record Stands (k : Kernel) : Type 0 where
 pub stands : (k : Kernel) → isSound k ≡ true → Stands k
 unfolding isSound
 stands k e =
-    let w = and-true (tidy k) (sound (view k)) e in
+    let w = both-true (tidy k) (sound (view k)) e in
     let t = tests-tidy k .sure (w .0) in
     record { machine = tests-sound (view k) .sure (w .1); written = encode-view k t; neat = t }
 

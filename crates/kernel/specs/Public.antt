@@ -1,6 +1,7 @@
 -- The step and the question "Wakes left" on tables, as the rules say it: what the public contracts cite.
 use Prim.Native.Nat.{ℕ}
 use mathlib.Core.Bool.{Bool, cond, _&&_}
+use Rattle.rules.specs.Line.{at}
 use Rattle.rules.specs.Machine.{Command}
 use Rattle.rules.specs.Run.{next, answer, question}
 use Rattle.rules.specs.Run as R
@@ -30,6 +31,14 @@ shape = record { code = 1; running = 0; released = 0 }
 -- Read the tables, take the rules' step, write the tables. A state that is not sound comes back as it is.
 unfoldable pub stepOf : Kernel → Command → Stepped
 stepOf k c = cond (isSound k) (report (encode (next (view k) c)) (answer (view k) c)) (report k shape)
+
+-- The same of a command in the program's four numbers.
+abbrev pub stepped : Kernel → given.Command → Stepped
+stepped k c = stepOf k (said c)
+
+-- The running task as the tables tell it: 0 before Start.
+abbrev pub runningOf : Kernel → ℕ
+runningOf k = cond (k .started) (at (k .ready) 0) 0
 
 -- The answer to "Wakes left" of a task.
 abbrev pub counted : R.Left → Left

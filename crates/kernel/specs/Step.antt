@@ -1,14 +1,14 @@
 -- What the code does to the tables, op by op: the contracts of the functions inside this crate.
 -- (proofs/ ties each to the rules. A reader of the public contracts needs none of this.)
 use Prim.Native.Nat.{ℕ, _+_, _^_}
-use mathlib.Core.Bool.{Bool, true, false, cond, not, _&&_, _||_}
+use mathlib.Core.Bool.{Bool, true, cond, not, _&&_, _||_}
 use mathlib.Core.List.{List, [], _∷_}
 use lib.Dec.{eqb, leb, ltb}
 use lib.ListN.{getD, set}
 use Rattle.rules.specs.Line.{at, count, within}
 use Rattle.rules.specs.Machine.{Command}
 use Rattle.rules.specs.Refusals.{formed, first-number}
-use Rattle.line.specs.Tables.{place, pop, lower, later, more, with-time, time-in, lead}
+use Rattle.line.specs.Tables.{place, pop, lower, later, more, with-time, time-in}
 use Rattle.kernel.specs.declared.Kernel.{Kernel}
 use Rattle.kernel.specs.declared.Stepped.{Stepped}
 use Rattle.kernel.specs.declared.command.Answer.{Answer}
@@ -138,11 +138,12 @@ checksOf c s =
     (eqb (c .op) 10 && eqb (c .b) 0 && not (eqb (s .waiter) 0), 12) ∷
     (eqb (c .op) 6 && not (ltb (s .clock + c .value) (2 ^ 64)), 13) ∷ []
 
-unfoldable pub refused-formed : Command → Case → ℕ
-refused-formed c s = first-number (checksOf c s)
+-- the number of the first check that holds: behind Range, and with it
+unfoldable pub refusal-formed : Command → Case → ℕ
+refusal-formed c s = first-number (checksOf c s)
 
-unfoldable pub refusedOf : Command → Case → ℕ
-refusedOf c s = cond (not (formed c)) 4 (refused-formed c s)
+unfoldable pub refusalOf : Command → Case → ℕ
+refusalOf c s = cond (not (formed c)) 4 (refusal-formed c s)
 
 abbrev pub caseOn : Command → List ℕ → List ℕ → List ℕ → List ℕ → List ℕ → List ℕ → ℕ → Bool → Case
 caseOn c base ready held way ceiling waiter clock started = record {
@@ -162,8 +163,9 @@ abbrev pub caseOf : Kernel → Command → Case
 caseOf k c = caseOn c (k .base) (k .ready) (k .held) (k .way) (k .ceiling) (k .waiter) (k .clock) (k .started)
 
 abbrev pub refusal-on : Kernel → Command → ℕ
-refusal-on k c = refusedOf c (caseOf k c)
+refusal-on k c = refusalOf c (caseOf k c)
 
+-- the answer to a refused command
 abbrev pub refused : ℕ → ℕ → Answer
 refused n x = record { code = n; running = record { 0 = x }; released = record { 0 = 0 } }
 

@@ -5,7 +5,7 @@ ghost use mathlib.Core.Bool.{not};
 ghost use lib.Dec.{ltb};
 ghost use Rattle.rules.specs.Refusals.{formed};
 ghost use Rattle.kernel.specs.Public.{said};
-ghost use Rattle.kernel.specs.Step.{refused-formed, refusedOf, caseOn};
+ghost use Rattle.kernel.specs.Step.{refusal-formed, refusalOf, caseOn};
 use crate::Kernel;
 use line::POId;
 use line::TaskID;
@@ -69,8 +69,8 @@ impl Command {
     }
 
     // The number of the first test that holds behind Range, 0 where none does: the last test first.
-    pub(crate) fn refused_formed(self, s: Case) -> u8
-        ensures { λ r. ⌜ r ≡ refused-formed (said self) s ⌝ }
+    pub(crate) fn refusal_formed(self, s: Case) -> u8
+        ensures { λ r. ⌜ r ≡ refusal-formed (said self) s ⌝ }
     {
         let op = self.op;
         let a = self.a;
@@ -92,10 +92,11 @@ impl Command {
         line::choose((4 <= op) & (op <= 11) & !s.started, 2, n)
     }
 
-    pub(crate) fn refused(self, s: Case) -> u8
-        ensures { λ r. ⌜ r ≡ refusedOf (said self) s ⌝ }
+    // The number of the first test that holds, Range before all others; 0 for none.
+    pub(crate) fn refusal(self, s: Case) -> u8
+        ensures { λ r. ⌜ r ≡ refusalOf (said self) s ⌝ }
     {
-        let n = self.refused_formed(s);
+        let n = self.refusal_formed(s);
         line::choose(!self.formed(), 4, n)
     }
 }

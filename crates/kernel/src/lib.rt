@@ -122,7 +122,7 @@ impl Kernel {
             self.clock,
             self.started,
         );
-        let code = c.refused(s);
+        let code = c.refusal(s);
         if code != 0 {
             return Stepped {
                 next: self,
@@ -188,6 +188,7 @@ impl Kernel {
     }
 }
 
+// The answer to a refused command: its number, who runs, and nobody released.
 fn refused(code: u8, running: u8) -> Answer
     ensures { λ r. ⌜ r ≡ step.refused code running ⌝ }
 {

@@ -8,7 +8,7 @@ use line::POId;
 use line::TaskID;
 
 // The clock, some ticks later: as it was, where it would pass its end.
-fn later(clock: u64, ticks: u64) -> u64
+fn grown(clock: u64, ticks: u64) -> u64
     ensures { λ r. ⌜ r ≡ step.grown clock ticks ⌝ }
 {
     if ticks <= 18446744073709551615 - clock {
@@ -141,7 +141,7 @@ impl Kernel {
         ensures { λ r. ⌜ r ≡ step.advancedOf self ticks ⌝ }
     {
         let mut next = self;
-        next.clock = later(self.clock, ticks);
+        next.clock = grown(self.clock, ticks);
         Stepped {
             next,
             answer: accepted(self.started, self.ready[0], 0),

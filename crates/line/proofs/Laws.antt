@@ -5,14 +5,14 @@ use native.Mathlib.Numerals.{add-one}
 use native.Mathlib.Nat.{add-comm}
 use native.Mathlib.Omega.{arith}
 use mathlib.Core.Path.{_≡_, refl, sym, ap, _∙_}
-use mathlib.Core.Bool.{Bool, true, false, cond, not, _&&_}
+use mathlib.Core.Bool.{Bool, true, false, cond, _&&_, and-true, and-assoc}
 use mathlib.Core.List.{List, [], _∷_, _++_, append-assoc, append-nil}
 use lib.Dec.{eqb}
 use lib.ListN.{length, take, drop, set, drop-of-length-le, length-drop, List·getD-eq-default}
 use lib.Seq.{drop-cons, take-suc-set, take-all, take-suc, set-out, set-split, getD-drop}
 use borrow.Author.Tests.{eq-eqb, ne-eqb, le-leb, lt-leb}
 use Rattle.rules.specs.Line.{at, count, one-if, every, neighbours}
-use Rattle.line.specs.Tables.{shift, place, lead, insert, pop, zeros, ordered, met, marks}
+use Rattle.line.specs.Tables.{shift, place, lead, insert, pop, ordered, met, marks}
 
 -- a lookup and a store past the end
 pub read-out : (l : List ℕ) (n t : ℕ) → length l ≡ n → n ≤ t → 0 ≡ at l t
@@ -91,14 +91,6 @@ module _ (t : ℕ) (l : List ℕ) (i n : ℕ) (h : i < length l) (inv : count t 
 
 pub count-done : (t : ℕ) (l : List ℕ) (i n : ℕ) → length l ≤ i → count t l ≡ n + count t (drop i l) → n ≡ count t l
 count-done t l i n h inv = sym (inv ∙ rw (drop-of-length-le l h) (omega arith))
-
-and-assoc : (a b c : Bool) → a && b && c ≡ a && (b && c)
-and-assoc true b c = refl
-and-assoc false b c = refl
-
-and-true : (a : Bool) → a && true ≡ a
-and-true true = refl
-and-true false = refl
 
 -- a loop that gathers a test of each entry, or of each two neighbours
 module _ (f : ℕ → Bool) (l : List ℕ) (i : ℕ) (b : Bool) where

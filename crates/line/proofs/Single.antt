@@ -34,12 +34,6 @@ use Rattle.line.proofs.at_time
 use Rattle.line.proofs.without_front
 use Rattle.line.proofs.holders
 use Rattle.line.proofs.one_more
-use Rattle.line.proofs.mark_line
-use Rattle.line.proofs.mark_waiting
-use Rattle.line.proofs.is_ended
-use Rattle.line.proofs.is_free
-use Rattle.line.proofs.is_falling
-use Rattle.line.proofs.is_rising
 
 module _ {M : Type 1} (𝓤 : URA M) where
   -- Of any two ends of a call that meet the contract c, with the answers r and s and the parameters d and e: `seen` of both is the same.
@@ -113,21 +107,3 @@ module _ {M : Type 1} (𝓤 : URA M) (H : Heap 𝓤) (A : Atoms 𝓤) (mem : Mem
 
   pub one-more-single : OneAnswer 𝓤 one_more.ended (one_more.clauses 𝓤 H A mem run)
   one-more-single κs a g r s d e = one 𝓤 _ _ _
-
-  pub mark-line-single : OneAnswer 𝓤 mark_line.ended (mark_line.clauses 𝓤 H A mem run)
-  mark-line-single κs a g r s d e = one 𝓤 _ _ _
-
-  pub mark-waiting-single : OneAnswer 𝓤 mark_waiting.ended (mark_waiting.clauses 𝓤 H A mem run)
-  mark-waiting-single κs a g r s d e = one 𝓤 _ _ _
-
-  pub is-ended-single : OneAnswer 𝓤 is_ended.ended (is_ended.clauses 𝓤 H A mem run)
-  is-ended-single κs a g r s d e = one 𝓤 _ _ _
-
-  pub is-free-single : OneAnswer 𝓤 is_free.ended (is_free.clauses 𝓤 H A mem run)
-  is-free-single κs a g r s d e = one 𝓤 _ _ _
-
-  pub is-falling-single : OneAnswer 𝓤 is_falling.ended (is_falling.clauses 𝓤 H A mem run)
-  is-falling-single κs a g r s d e = one 𝓤 _ _ _
-
-  pub is-rising-single : OneAnswer 𝓤 is_rising.ended (is_rising.clauses 𝓤 H A mem run)
-  is-rising-single κs a g r s d e = one 𝓤 _ _ _

@@ -21,9 +21,9 @@ use Rattle.rules.proofs.Theorems as rules
 use Rattle.kernel.specs.declared.Kernel.{Kernel}
 use Rattle.kernel.specs.declared.command.Command.{Command}
 use Rattle.kernel.specs.View.{view, encode}
-use Rattle.kernel.specs.Public.{isSound, said, report, shape, stepOf, leftOf}
+use Rattle.kernel.specs.Public.{isSound, said, report, shape, stepOf, stepped, runningOf, leftOf}
 use Rattle.kernel.proofs.Written.{stands, encode-sound, step-on, step-sound, refused-keeps}
-use Rattle.promises.specs.Words.{freshOf, stepped, runOf, answersOf, runningOf, momentsOf, wokeBy, wakesOf, DueIn}
+use Rattle.promises.specs.Words.{freshOf, runOf, answersOf, momentsOf, wokeBy, wakesOf, DueIn}
 use Rattle.promises.proofs.Tied.{told, run-tie, answers-tie, run-from-fresh, running-tie, left-tie, due-at, due-in, woke-tie, wakes-tie, all-moments, moments-all, all-told}
 
 -- the machine that a run from the fresh tables stands for

@@ -17,11 +17,11 @@ use Rattle.kernel.specs.declared.Kernel.{Kernel}
 use Rattle.kernel.specs.declared.command.Command.{Command}
 use Rattle.kernel.specs.declared.command.Answer.{Answer}
 use Rattle.kernel.specs.View.{pad, times, encode}
-use Rattle.kernel.specs.Public.{said, leftOf}
+use Rattle.kernel.specs.Public.{said, runningOf, leftOf}
 use Rattle.kernel.proofs.Padded.{Right, own-right, front-pad}
 use Rattle.kernel.proofs.Round.{sound-own, view-encode}
 use Rattle.kernel.proofs.Written.{step-on, encode-sound}
-use Rattle.promises.specs.Words.{freshOf, runOf, answersOf, runningOf, momentsOf, wokeBy, wakesOf, DueIn}
+use Rattle.promises.specs.Words.{freshOf, runOf, answersOf, momentsOf, wokeBy, wakesOf, DueIn}
 
 at-pad : (n : ℕ) (l : List ℕ) (r : ℕ) → length l ≤ n → at (pad n l) r ≡ at l r
 at-pad zero [] r h = refl

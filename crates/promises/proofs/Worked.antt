@@ -10,13 +10,13 @@ use Rattle.rules.specs.Run as rules
 use Rattle.kernel.specs.declared.Kernel.{Kernel}
 use Rattle.kernel.specs.declared.command.Command.{Command}
 use Rattle.kernel.specs.View.{encode, view, tidy}
-use Rattle.kernel.specs.Public.{isSound, stepOf}
+use Rattle.kernel.specs.Public.{isSound, stepOf, stepped}
 use Rattle.generator.specs.declared.Profile.{Profile}
 use Rattle.generator.specs.Xorshift.{draw}
 use Rattle.generator.specs.Menu.{menu}
 use Rattle.generator.specs.Draw.{drawn, draw-refusal, chosen}
 use Rattle.generator.specs.Public.{drawnIn, drawnOf}
-use Rattle.promises.specs.Words.{freshOf, stepped, runOf}
+use Rattle.promises.specs.Words.{freshOf, runOf}
 
 -- a line of the walk: its number, op, code, running, released and clock
 pub record Line : Type 0 where

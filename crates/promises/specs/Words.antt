@@ -2,24 +2,20 @@
 use Prim.Native.Nat.{ℕ, _+_, _≤_}
 use mathlib.Core.Path.{_≡_}
 use mathlib.Core.Logic.{_≢_}
-use mathlib.Core.Bool.{Bool, cond, _&&_}
+use mathlib.Core.Bool.{Bool, _&&_}
 use mathlib.Core.List.{List, [], _∷_}
 use lib.Dec.{eqb}
 use Rattle.rules.specs.Line.{at, one-if}
 use Rattle.rules.specs.Machine.{fresh}
 use Rattle.kernel.specs.declared.Kernel.{Kernel}
-use Rattle.kernel.specs.declared.Stepped.{Stepped}
 use Rattle.kernel.specs.declared.command.Command.{Command}
 use Rattle.kernel.specs.declared.command.Answer.{Answer}
 use Rattle.kernel.specs.View.{encode}
-use Rattle.kernel.specs.Public.{said, stepOf}
+use Rattle.kernel.specs.Public.{stepped}
 
--- What Kernel::fresh and Kernel::step answer: their contracts are these equations.
+-- What Kernel::fresh answers: its contract is this equation. (What Kernel::step answers, `stepped`, and who runs, `runningOf`: kernel/specs/Public.)
 unfoldable pub freshOf : Kernel
 freshOf = encode fresh
-
-abbrev pub stepped : Kernel → Command → Stepped
-stepped k c = stepOf k (said c)
 
 -- Runs of the step: the state behind some commands, and the answers on the way.
 unfoldable pub runOf : Kernel → List Command → Kernel
@@ -34,10 +30,6 @@ answersOf k (c ∷ cs) = stepped k c .answer ∷ answersOf (stepped k c .next) c
 unfoldable pub momentsOf : Kernel → List Command → List Kernel
 momentsOf k [] = k ∷ []
 momentsOf k (c ∷ cs) = k ∷ momentsOf (stepped k c .next) cs
-
--- the running task: 0 before Start
-abbrev pub runningOf : Kernel → ℕ
-runningOf k = cond (k .started) (at (k .ready) 0) 0
 
 -- an accepted Wake, op 5 and code 0; and how many of them a run has
 unfoldable pub wokeBy : Kernel → Command → Bool

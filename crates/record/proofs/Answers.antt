@@ -1,10 +1,11 @@
 -- Two answers that meet a public function's contract are one: each contract is an equation. Rules out: a contract that leaves an answer open.
--- Which answer it is, the definitions of specs/ say. Assumes nothing.
+-- Which answer it is, the definitions of specs/ say. The clause is written out once more, and not taken from the check (`clauses`): the law for that stands in crate line,
+-- and neither the record nor the tape builds on line. Assumes nothing.
 use mathlib.Core.Path.{_≡_, sym, _∙_}
 use mathlib.Core.List.{List}
 use mathlib.Core.Bool.{Bool, cond}
 use Prim.Native.Nat.{ℕ}
-use Rattle.record.specs.Form.{bytesOf, recordOf, marked, headerOf}
+use Rattle.record.specs.Form.{le8, ofLe, bytesOf, recordOf, marked, headerOf}
 use Rattle.record.specs.Fault.{faultOf}
 use Rattle.record.specs.declared.Record.{Record}
 
@@ -16,6 +17,12 @@ one-header seed r r′ = one-answer
 
 pub one-record : (p : List ℕ) (r r′ : Record) → r ≡ recordOf p → r′ ≡ recordOf p → r ≡ r′
 one-record p r r′ = one-answer
+
+pub one-value : (b : List ℕ) (x x′ : ℕ) → x ≡ ofLe b 0 → x′ ≡ ofLe b 0 → x ≡ x′
+one-value b x x′ = one-answer
+
+pub one-spelling : (x : ℕ) (b b′ : List ℕ) → b ≡ le8 x → b′ ≡ le8 x → b ≡ b′
+one-spelling x b b′ = one-answer
 
 pub one-bytes : (r : Record) (p p′ : List ℕ) → p ≡ bytesOf r → p′ ≡ bytesOf r → p ≡ p′
 one-bytes r p p′ = one-answer

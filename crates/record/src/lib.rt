@@ -5,7 +5,7 @@ ghost use mathlib.Core.Path.{_≡_};
 ghost use mathlib.Core.Bool.{cond};
 ghost use Prim.Native.Nat.{_<_};
 ghost use lib.ListN.{getD};
-ghost use Rattle.record.specs.Form.{ofLe, bytesOf, recordOf, marked, headerFields, isSeed, commandFields, headerOf};
+ghost use Rattle.record.specs.Form.{le8, ofLe, bytesOf, recordOf, marked, headerFields, isSeed, commandFields, headerOf};
 ghost use Rattle.record.specs.Fault.{headerFault, commandFault, faultOf};
 
 // The ranges of the fields, each in this one place (and in specs/Form).
@@ -58,25 +58,49 @@ fn wide(x: u8) -> u64
     x as u64
 }
 
+// The number that 8 bytes hold, least first. (The image reads its numbers by it too.)
+pub fn number_of(b: [u8; 8]) -> u64
+    ensures { λ r. ⌜ r ≡ ofLe b 0 ⌝ }
+{
+    wide(b[0])
+        + 256 * wide(b[1])
+        + 65536 * wide(b[2])
+        + 16777216 * wide(b[3])
+        + 4294967296 * wide(b[4])
+        + 1099511627776 * wide(b[5])
+        + 281474976710656 * wide(b[6])
+        + 72057594037927936 * wide(b[7])
+}
+
+// A number's 8 bytes, least first. (The image writes its numbers by it too.)
+pub fn number_bytes(x: u64) -> [u8; 8]
+    ensures { λ b. ⌜ b ≡ le8 x ⌝ }
+{
+    [
+        (x % 256) as u8,
+        (x / 256 % 256) as u8,
+        (x / 65536 % 256) as u8,
+        (x / 16777216 % 256) as u8,
+        (x / 4294967296 % 256) as u8,
+        (x / 1099511627776 % 256) as u8,
+        (x / 281474976710656 % 256) as u8,
+        (x / 72057594037927936 % 256) as u8,
+    ]
+}
+
 fn value_of(p: &[u8]) -> u64
     ensures { λ r. ⌜ r ≡ ofLe (now (p .entry)) 8 ⌝ }
 {
-    let b0 = wide(byte(p, 8));
-    let b1 = wide(byte(p, 9));
-    let b2 = wide(byte(p, 10));
-    let b3 = wide(byte(p, 11));
-    let b4 = wide(byte(p, 12));
-    let b5 = wide(byte(p, 13));
-    let b6 = wide(byte(p, 14));
-    let b7 = wide(byte(p, 15));
-    b0
-        + 256 * b1
-        + 65536 * b2
-        + 16777216 * b3
-        + 4294967296 * b4
-        + 1099511627776 * b5
-        + 281474976710656 * b6
-        + 72057594037927936 * b7
+    number_of([
+        byte(p, 8),
+        byte(p, 9),
+        byte(p, 10),
+        byte(p, 11),
+        byte(p, 12),
+        byte(p, 13),
+        byte(p, 14),
+        byte(p, 15),
+    ])
 }
 
 // The fields that 16 bytes hold, as the part that a reader hands back; a byte that is not there counts as 0.
@@ -98,7 +122,7 @@ pub fn record_of(p: &[u8]) -> Record
 pub fn bytes_of(r: Record) -> [u8; 16]
     ensures { λ p. ⌜ p ≡ bytesOf r ⌝ }
 {
-    let x = r.value;
+    let v = number_bytes(r.value);
     [
         0x52,
         0x56,
@@ -108,14 +132,14 @@ pub fn bytes_of(r: Record) -> [u8; 16]
         r.code,
         r.running,
         r.released,
-        (x % 256) as u8,
-        (x / 256 % 256) as u8,
-        (x / 65536 % 256) as u8,
-        (x / 16777216 % 256) as u8,
-        (x / 4294967296 % 256) as u8,
-        (x / 1099511627776 % 256) as u8,
-        (x / 281474976710656 % 256) as u8,
-        (x / 72057594037927936 % 256) as u8,
+        v[0],
+        v[1],
+        v[2],
+        v[3],
+        v[4],
+        v[5],
+        v[6],
+        v[7],
     ]
 }
 

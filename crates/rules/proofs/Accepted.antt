@@ -11,11 +11,11 @@ use lib.ListN.{getD}
 use borrow.Author.Tests.{eqb-true, eq-eqb, eqb-false, ltb-true, ltb-false, leb-true, leb-false, le-ltb, not-false, not-true}
 use Rattle.rules.specs.Line.{at, within, front, empty, first-alone, at-tail, count}
 use Rattle.rules.specs.Machine.{Machine, Command, active, runner, created}
-use Rattle.rules.specs.Table.{Out, same, take, yield, close, sleep, await, Rel, none, serve, Effect, nothing, creates, declares, begins, moves, effect, freed, enter, release}
+use Rattle.rules.specs.Table.{Out, same, take, yield, sleep, await, Rel, none, serve, Effect, nothing, creates, declares, begins, moves, effect, freed, enter, release}
 use Rattle.rules.specs.Refusals.{checks, first-number, refusal, fits, holds-so}
 use Rattle.rules.proofs.Words.{All, cmd}
 use Rattle.rules.proofs.Lists.{all-map, count-place}
-use Rattle.rules.proofs.Tests.{and-true, or-false}
+use Rattle.rules.proofs.Tests.{both-true, both-false}
 use Rattle.rules.proofs.Sounds.{Sound, Admits, act-held, object-known, object-real}
 use Rattle.rules.proofs.Kept.{AllowedOut, MayLeave}
 use Rattle.rules.proofs.SetUp.{MayCreate, MayDeclare}
@@ -54,7 +54,7 @@ Allowed m begins = m .started ≢ true
 Allowed m (moves out rel n) = MayMove m out rel n
 
 within-true : (lo hi n : ℕ) → within lo hi n ≡ true → (lo ≤ n) × (n ≤ hi)
-within-true lo hi n e = let w = and-true (leb lo n) (leb n hi) e in (leb-true lo n (w .0), leb-true n hi (w .1))
+within-true lo hi n e = let w = both-true (leb lo n) (leb n hi) e in (leb-true lo n (w .0), leb-true n hi (w .1))
 
 -- the runner stays in front of whoever is placed at most at its active priority
 front-enter : (m : Machine) (us l : List ℕ) → 1 ≤ count 0 l → All (λ u. at (m .base) u ≤ active m (front 0 l)) us → front 0 (enter m us l) ≡ front 0 l
@@ -99,7 +99,7 @@ module _ (m : Machine) (s : Sound m) where
 
   closes-front : (o : ℕ) → not (not (eqb (at (m .ceiling) o) 0)) ≡ false → (w : ℕ) → not (holds-so m o w) ≡ false → (b : Bool) → runner (release (cond b (serve o) none) m) ≡ runner m
   unfolding release
-  closes-front o h w q true = runner-stays o (eqb-true _ _ (and-true _ _ (not-false _ q) .0)) (is-declared o h)
+  closes-front o h w q true = runner-stays o (eqb-true _ _ (both-true _ _ (not-false _ q) .0)) (is-declared o h)
   closes-front o h w q false = refl
 
   enters : (o b : ℕ) → MayLeave m → Admits m o (runner m) → count o (m .held) ≡ 0 → leb b 1 ≡ true → eqb b 0 && not (empty (getD (m .queue) o [])) ≡ false → (x : Bool) → eqb b 1 ≡ x
@@ -117,20 +117,20 @@ module _ (m : Machine) (s : Sound m) where
   by-op zero a b v ok = tt
   by-op (suc zero) a b v ok =
       let p = check-passed m (cmd 1 a b v) ok in
-      let f = and-true (within 1 31 a && within 1 15 b) (eqb v 0) (not-false _ (p 4)) .0 in
-      let g = and-true (within 1 31 a) (within 1 15 b) f in
+      let f = both-true (within 1 31 a && within 1 15 b) (eqb v 0) (not-false _ (p 4)) .0 in
+      let g = both-true (within 1 31 a) (within 1 15 b) f in
       let t = within-true 1 31 a (g .0) in
-      record { off = off-start (p 3); new = or-false (created m a) false (p 5) .0; task = (t .0, omega (arith, t .1)); rank = within-true 1 15 b (g .1) }
+      record { off = off-start (p 3); new = both-false (created m a) false (p 5) .0; task = (t .0, omega (arith, t .1)); rank = within-true 1 15 b (g .1) }
   by-op (suc (suc zero)) a b v ok =
       let p = check-passed m (cmd 2 a b v) ok in
-      let f = and-true (within 1 7 a && within 1 15 b) (eqb v 0) (not-false _ (p 4)) .0 in
-      let g = and-true (within 1 7 a) (within 1 15 b) f in
+      let f = both-true (within 1 7 a && within 1 15 b) (eqb v 0) (not-false _ (p 4)) .0 in
+      let g = both-true (within 1 7 a) (within 1 15 b) f in
       let t = within-true 1 7 a (g .0) in
       record { off = off-start (p 3); object = (t .0, omega (arith, t .1)); rank = within-true 1 15 b (g .1) }
   by-op (suc (suc (suc zero))) a b v ok = off-start (check-passed m (cmd 3 a b v) ok 3)
   by-op (suc (suc (suc (suc zero)))) a b v ok =
       let p = check-passed m (cmd 4 a b v) ok in
-      let f = and-true (eqb a 0 && eqb b 0) (ltb v (2 ^ 64)) (not-false _ (p 4)) .1 in
+      let f = both-true (eqb a 0 && eqb b 0) (ltb v (2 ^ 64)) (not-false _ (p 4)) .1 in
       record { on = not-false _ (p 2); leaves = delays v (leaves (p 7) (p 8)) f (ltb (m .clock) v) refl; in-front = λ n. refl; in-time = still }
   by-op (suc (suc (suc (suc (suc zero))))) a b v ok = record { on = not-false _ (check-passed m (cmd 5 a b v) ok 2); leaves = tt; in-front = λ n. absurd (n refl); in-time = still }
   by-op (suc (suc (suc (suc (suc (suc zero)))))) a b v ok =
@@ -141,14 +141,14 @@ module _ (m : Machine) (s : Sound m) where
       record { on = not-false _ (p 2); leaves = record { leaves = leaves (p 7) (p 8); admits = (is-declared a (p 6), ltb-false _ _ (p 10)); unheld = (let z : count a (m .held) < 1 = leb-false _ _ (p 11) in omega arith); in-one-way = (omega arith, omega arith) }; in-front = λ n. refl; in-time = still }
   by-op (suc (suc (suc (suc (suc (suc (suc (suc zero)))))))) a b v ok =
       let p = check-passed m (cmd 8 a b v) ok in
-      let k = closes-front a (p 6) 1 (or-false _ false (p 9) .0) (eqb b 1) in
+      let k = closes-front a (p 6) 1 (both-false _ false (p 9) .0) (eqb b 1) in
       record { on = not-false _ (p 2); leaves = λ z. eqb-false _ _ (p 7) (sym k ∙ z); in-front = λ n. k; in-time = still }
   by-op (suc (suc (suc (suc (suc (suc (suc (suc (suc zero))))))))) a b v ok =
       let p = check-passed m (cmd 9 a b v) ok in
       record { on = not-false _ (p 2); leaves = eqb-false _ _ (p 7); in-front = λ n. refl; in-time = still }
   by-op (suc (suc (suc (suc (suc (suc (suc (suc (suc (suc zero)))))))))) a b v ok =
       let p = check-passed m (cmd 10 a b v) ok in
-      let f = and-true (within 1 7 a) (leb b 1) (and-true (within 1 7 a && leb b 1) (eqb v 0) (not-false _ (p 4)) .0) .1 in
+      let f = both-true (within 1 7 a) (leb b 1) (both-true (within 1 7 a && leb b 1) (eqb v 0) (not-false _ (p 4)) .0) .1 in
       record { on = not-false _ (p 2); leaves = enters a b (leaves (p 7) (p 8)) (is-declared a (p 6), ltb-false _ _ (p 10)) (let z : count a (m .held) < 1 = leb-false _ _ (p 11) in omega arith) f (p 12) (eqb b 1) refl; in-front = λ n. refl; in-time = still }
   by-op (suc (suc (suc (suc (suc (suc (suc (suc (suc (suc (suc zero))))))))))) a b v ok =
       let p = check-passed m (cmd 11 a b v) ok in

@@ -2,7 +2,7 @@
 -- sound, and every run from the fresh machine is through sound states. Assumes nothing.
 use Prim.Native.Nat.{_+_}
 use mathlib.Core.Path.{_≡_, refl, _∙_}
-use mathlib.Core.Bool.{Bool, true, false, _&&_}
+use mathlib.Core.Bool.{Bool, true, false, and-true, and-false}
 use mathlib.Core.List.{List, [], _∷_}
 use lib.Dec.{eqb}
 use borrow.Author.Tests.{eqb-true}
@@ -76,14 +76,6 @@ pub step : (m : Machine) → Sound m → (c : Command) → Step m c
 unfolding next released wakes
 step m s c = go (eqb (refusal m c) 0) refl
   where
-    and-false : (b : Bool) → b && false ≡ false
-    and-false true = refl
-    and-false false = refl
-
-    and-true : (b : Bool) → b && true ≡ b
-    and-true true = refl
-    and-true false = refl
-
     go : (b : Bool) → eqb (refusal m c) 0 ≡ b → Step m c
     go true e = carried (rw e) (rw e) (rw e (and-true (eqb (c .op) 5))) (allowed m s c (eqb-true _ _ e))
     go false e = kept (rw e) (rw e) (rw e (and-false (eqb (c .op) 5)))

@@ -15,13 +15,13 @@ pub record Tests (b : Bool) (P : Type 0) : Type 0 where
   pub sure : b ≡ true → P
   pub found : P → b ≡ true
 
-pub and-true : (a b : Bool) → a && b ≡ true → (a ≡ true) × (b ≡ true)
-and-true true b e = (refl, e)
-and-true false b e = absurd (true≢false (sym e))
+pub both-true : (a b : Bool) → a && b ≡ true → (a ≡ true) × (b ≡ true)
+both-true true b e = (refl, e)
+both-true false b e = absurd (true≢false (sym e))
 
-pub or-false : (a b : Bool) → a || b ≡ false → (a ≡ false) × (b ≡ false)
-or-false true b e = absurd (true≢false e)
-or-false false b e = (refl, e)
+pub both-false : (a b : Bool) → a || b ≡ false → (a ≡ false) × (b ≡ false)
+both-false true b e = absurd (true≢false e)
+both-false false b e = (refl, e)
 
 pub tests-is : (b : Bool) → Tests b (b ≡ true)
 tests-is b = record { sure = λ e. e; found = λ e. e }
@@ -46,7 +46,7 @@ pub tests-map : {b : Bool} {P Q : Type 0} → (P → Q) → (Q → P) → Tests 
 tests-map f g t = record { sure = λ e. f (t .sure e); found = λ q. t .found (g q) }
 
 pub tests-and : {a b : Bool} {P Q : Type 0} → Tests a P → Tests b Q → Tests (a && b) (P × Q)
-tests-and {a} {b} p q = record { sure = λ e. (let w = and-true a b e in (p .sure (w .0), q .sure (w .1))); found = λ w. rw (p .found (w .0), q .found (w .1)) }
+tests-and {a} {b} p q = record { sure = λ e. (let w = both-true a b e in (p .sure (w .0), q .sure (w .1))); found = λ w. rw (p .found (w .0), q .found (w .1)) }
 
 -- "it holds nothing, or .." is an implication
 pub tests-or : {a b : Bool} {P Q : Type 0} → Tests a P → Tests b Q → Tests (a || b) ((P → ⊥) → Q)

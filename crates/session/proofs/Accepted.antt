@@ -12,14 +12,14 @@ use Rattle.rules.specs.Refusals.{refusal}
 use Rattle.rules.specs.Table.{carry}
 use Rattle.rules.specs.Run.{next, answer}
 use Rattle.rules.proofs.Step.{fresh-sound}
-use Rattle.rules.proofs.Tests.{and-true}
+use Rattle.rules.proofs.Tests.{both-true}
 use Rattle.rules.proofs.Words.{All}
 use Rattle.kernel.specs.declared.Kernel.{Kernel}
 use Rattle.kernel.specs.View.{view, encode}
-use Rattle.kernel.specs.Public.{isSound, stepOf}
+use Rattle.kernel.specs.Public.{isSound, stepOf, stepped}
 use Rattle.kernel.proofs.Written.{encode-sound, step-sound}
 use Rattle.generator.specs.declared.Profile.{Profile}
-use Rattle.generator.specs.Public.{drawnOf, drawsOf, stepOn}
+use Rattle.generator.specs.Public.{drawnOf, drawsOf}
 use Rattle.generator.proofs.Shipped.{Going, draws-go-on}
 use Rattle.text.specs.declared.command.Spoken.{Spoken}
 use Rattle.text.specs.declared.print.Row.{Row}
@@ -48,14 +48,14 @@ rows-printed (suc left) k n seed p = rw (rows-printed left (state-behind k (spok
 
 -- where each draw is accepted, and its step too, each row has code 0
 abbrev GoesOn : Kernel → ℕ → Profile → Type 0
-GoesOn k seed p = (i : ℕ) → let e = drawsOf i k seed p in (drawnOf (e .0) (e .1) p .code ≡ 0) × (stepOn (e .0) (drawnOf (e .0) (e .1) p .command) .answer .code ≡ 0)
+GoesOn k seed p = (i : ℕ) → let e = drawsOf i k seed p in (drawnOf (e .0) (e .1) p .code ≡ 0) × (stepped (e .0) (drawnOf (e .0) (e .1) p .command) .answer .code ≡ 0)
 
 rows-accepted : (left : ℕ) (k : Kernel) (n seed : ℕ) (p : Profile) → GoesOn k seed p → All (λ (r : Row). r .code ≡ 0) (drawn-rows left k n seed p)
 unfolding drawn-rows drawsOf state-behind answer-to
 rows-accepted zero k n seed p h = tt
 rows-accepted (suc left) k n seed p h =
     let e : drawnOf k seed p .code ≡ 0 = h 0 .0 in
-    (rw e (h 0 .1), rw e (rows-accepted left (stepOn k (drawnOf k seed p .command) .next) (following n) (drawnOf k seed p .seed) p (λ i. h (suc i))))
+    (rw e (h 0 .1), rw e (rows-accepted left (stepped k (drawnOf k seed p .command) .next) (following n) (drawnOf k seed p .seed) p (λ i. h (suc i))))
 
 -- ---- the state behind set-up lines
 
@@ -81,7 +81,7 @@ unfolding state-behind answer-to
 start-starts k n s h e = go (eqb (s .code) 0) refl
   where
     tests : (eqb (s .op) 3 ≡ true) × (eqb (answer-to k s .code) 0 ≡ true)
-    tests = and-true (eqb (s .op) 3) (eqb (answer-to k s .code) 0) e
+    tests = both-true (eqb (s .op) 3) (eqb (answer-to k s .code) 0) e
 
     go : (b : Bool) → eqb (s .code) 0 ≡ b → cond b (stepOf k (asked s) .next) k .started ≡ true
     go true t = step-starts k (asked s) h (eqb-true (s .op) 3 (tests .0)) (rw t at (eqb-true (answer-to k s .code) 0 (tests .1)))

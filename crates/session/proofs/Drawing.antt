@@ -14,7 +14,7 @@ use Rattle.text.specs.declared.command.Spoken.{Spoken}
 use Rattle.text.specs.declared.print.Row.{Row}
 use Rattle.text.specs.declared.split.Held.{Held}
 use Rattle.text.specs.declared.split.Cut.{Cut}
-use Rattle.text.specs.Buffer.{contents-after, place-after}
+use Rattle.decimal.specs.Buffer.{contents-after, place-after}
 use Rattle.text.specs.Lines.{cut-of, cuts, holds-after, held-bytes, nothing-held}
 use Rattle.text.specs.Printed.{draw-line}
 use Rattle.session.specs.declared.tell.Told.{Told}
@@ -24,7 +24,8 @@ use Rattle.session.specs.declared.draw.Reader.{Reader}
 use Rattle.session.specs.Told.{following, told}
 use Rattle.session.specs.Walk.{In-front}
 use Rattle.session.specs.Draw.{spoken, set-up, heard, ended, drawn-next, shown-text, text-of, lines-text, lines-behind, some-text, some-behind, piece-text, piece-behind, fed, fed-out, last-heard, end-text, end-behind, finished, finished-out, drew, drew-out}
-use Rattle.session.proofs.Short.{draw-short, in-front}
+use Rattle.text.proofs.Bounds.{draw-short}
+use Rattle.session.proofs.Front.{in-front}
 use Rattle.session.proofs.Filling.{Filling, filling-first, filling-on, filled-at, filled-out, filled-front}
 use Rattle.session.proofs.Feeding.{cuts-whole, holds-whole}
 

@@ -11,7 +11,7 @@ use Rattle.text.specs.declared.command.Spoken.{Spoken}
 use Rattle.text.specs.declared.split.Held.{Held}
 use Rattle.text.specs.declared.split.Cut.{Cut}
 use Rattle.text.specs.declared.split.Told as said
-use Rattle.text.specs.Buffer.{contents-after, place-after}
+use Rattle.decimal.specs.Buffer.{contents-after, place-after}
 use Rattle.text.specs.Commands.{command-of}
 use Rattle.text.specs.Lines.{cut-of, told-of, cuts, holds-after, held-bytes, nothing-held}
 use Rattle.text.specs.Printed.{walk-line}
@@ -19,7 +19,8 @@ use Rattle.session.specs.declared.tell.Told.{Told}
 use Rattle.session.specs.declared.walk.Walk.{Walk}
 use Rattle.session.specs.Told.{following, state-behind, row-for, told}
 use Rattle.session.specs.Walk.{walked, state-after, number-after, text-for, walk-after, In-front, fed, fed-out}
-use Rattle.session.proofs.Short.{walk-short, in-front}
+use Rattle.text.proofs.Bounds.{walk-short}
+use Rattle.session.proofs.Front.{in-front}
 use Rattle.session.proofs.Filling.{Filling, filling-first, filling-on, filled-at, filled-out, filled-front}
 
 -- ---- the lines that are left, one cut on

@@ -1,4 +1,4 @@
-pub mod Short
+pub mod Front
 pub mod Telling
 pub mod Filling
 pub mod Feeding

@@ -10,17 +10,18 @@ use lib.ListN.{length, take}
 use Rattle.rules.specs.Line.{empty}
 use Rattle.kernel.specs.declared.Kernel.{Kernel}
 use Rattle.kernel.specs.declared.Stepped.{Stepped}
-use Rattle.kernel.specs.Public.{stepOf}
+use Rattle.kernel.specs.Public.{stepOf, runningOf}
 use Rattle.text.specs.declared.command.Spoken.{Spoken}
-use Rattle.text.specs.Buffer.{contents-after, place-after}
+use Rattle.decimal.specs.Buffer.{contents-after, place-after}
 use Rattle.text.specs.Commands.{command-of}
 use Rattle.text.specs.Lines.{held-bytes}
 use Rattle.text.specs.Printed.{walk-line}
 use Rattle.session.specs.declared.tell.Told.{Told}
 use Rattle.session.specs.declared.walk.Walk.{Walk}
-use Rattle.session.specs.Told.{following, asked, running-in, state-behind, answer-to, told}
+use Rattle.session.specs.Told.{following, asked, state-behind, answer-to, told}
 use Rattle.session.specs.Walk.{walked, last-text, In-front, finished, finished-out}
-use Rattle.session.proofs.Short.{in-front, put-in-front, walk-short}
+use Rattle.text.proofs.Bounds.{walk-short}
+use Rattle.session.proofs.Front.{in-front, put-in-front}
 
 pub one-more : (n : ℕ) → n < 18446744073709551615 → n + 1 ≡ following n
 one-more n h = rw (lt-ltb n 18446744073709551615 h)
@@ -29,7 +30,7 @@ pub no-more : (n : ℕ) → 18446744073709551615 ≤ n → n ≡ following n
 no-more n h = rw (le-ltb n 18446744073709551615 h)
 
 module _ (k : Kernel) (n : ℕ) (s : Spoken) where
-  pub says-none : (run : ℕ) → (s .code ≡ 0 → ⊥) → run ≡ running-in k
+  pub says-none : (run : ℕ) → (s .code ≡ 0 → ⊥) → run ≡ runningOf k
       → record { kernel = k; row = record { n = n; op = s .op; a = s .a; b = s .b; value = s .value; code = s .code; running = run; released = 0; clock = k .clock } } ≡ told k n s
   unfolding state-behind answer-to
   says-none run z e = rw (ne-eqb (s .code) 0 z, e)

@@ -4,20 +4,21 @@ use mathlib.Core.Path.{_≡_, refl, sym}
 use mathlib.Core.List.{List, [], _∷_, _++_, map, append-assoc}
 use lib.ListN.{length}
 use Rattle.kernel.specs.declared.Kernel.{Kernel}
+use Rattle.kernel.specs.Public.{runningOf}
 use Rattle.text.specs.Commands.{command-of, no-command}
 use Rattle.text.specs.Lines.{kept, joined, cuts, holds-after, lines-of-pieces}
 use Rattle.text.specs.Printed.{walk-header}
 use Rattle.text.proofs.Kept.{kept-says}
 use Rattle.text.proofs.Theorems.{lines-whole}
 use Rattle.session.specs.declared.walk.Walk.{Walk}
-use Rattle.session.specs.Told.{following, running-in, state-behind, answer-to, row-for}
+use Rattle.session.specs.Told.{following, state-behind, answer-to, row-for}
 use Rattle.session.specs.Walk.{walked, state-after, number-after, walk-text, at-first, text-for, walk-after, last-text, printed}
 
 -- A line refused with 14 has op, operands and released 0, the running task and clock as they stand, and changes nothing.
 -- (It rules out a program that loses the running task, or steps all the same. That the line counts, is in `walked`.)
 pub refused-line : (k : Kernel) (n : ℕ) (l : List ℕ) → command-of l ≡ no-command
     → (state-behind k (command-of l) ≡ k)
-    × (row-for k n (command-of l) ≡ record { n = n; op = 0; a = 0; b = 0; value = 0; code = 14; running = running-in k; released = 0; clock = k .clock })
+    × (row-for k n (command-of l) ≡ record { n = n; op = 0; a = 0; b = 0; value = 0; code = 14; running = runningOf k; released = 0; clock = k .clock })
 unfolding state-behind answer-to
 refused-line k n l e = (rw e, rw e)
 

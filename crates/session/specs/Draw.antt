@@ -1,5 +1,5 @@
 -- What the program draw prints: of all its input, and of its input in pieces.
-use Prim.Native.Nat.{ℕ, zero, suc, _+_, _-_, _*_}
+use Prim.Native.Nat.{ℕ, zero, suc, _-_, _*_}
 use mathlib.Core.Bool.{Bool, true, false, cond, _&&_}
 use mathlib.Core.List.{List, [], _∷_, _++_}
 use lib.Dec.{eqb, leb}
@@ -15,7 +15,7 @@ use Rattle.generator.specs.Public.{drawnOf}
 use Rattle.text.specs.declared.command.Spoken.{Spoken}
 use Rattle.text.specs.declared.first.FirstLine.{FirstLine}
 use Rattle.text.specs.declared.print.Row.{Row}
-use Rattle.text.specs.Buffer.{contents-after, place-after}
+use Rattle.decimal.specs.Buffer.{contents-after, place-after}
 use Rattle.text.specs.Commands.{command-of}
 use Rattle.text.specs.FirstLine.{first-line-of}
 use Rattle.text.specs.Lines.{lines, cuts, holds-after, held-bytes, nothing-held}

@@ -2,11 +2,10 @@
 use Prim.Native.Nat.{ℕ, _+_}
 use mathlib.Core.Bool.{cond}
 use lib.Dec.{eqb, ltb}
-use Rattle.rules.specs.Line.{at}
 use Rattle.rules.specs.Machine.{Command}
 use Rattle.kernel.specs.declared.Kernel.{Kernel}
 use Rattle.kernel.specs.declared.command.Answer.{Answer}
-use Rattle.kernel.specs.Public.{stepOf}
+use Rattle.kernel.specs.Public.{stepOf, runningOf}
 use Rattle.text.specs.declared.command.Spoken.{Spoken}
 use Rattle.text.specs.declared.print.Row.{Row}
 use Rattle.session.specs.declared.tell.Told.{Told}
@@ -19,17 +18,13 @@ following n = cond (ltb n 18446744073709551615) (n + 1) n
 abbrev pub asked : Spoken → Command
 asked s = record { op = s .op; a = s .a; b = s .b; value = s .value }
 
--- the running task as it stands: 0 before Start
-abbrev pub running-in : Kernel → ℕ
-running-in k = cond (k .started) (at (k .ready) 0) 0
-
 -- A line that says a command (code 0) is a step of the kernel. A line refused with 14 changes nothing;
 unfoldable pub state-behind : Kernel → Spoken → Kernel
 state-behind k s = cond (eqb (s .code) 0) (stepOf k (asked s) .next) k
 
 -- it is answered with its code, the running task as it stands, and nobody released.
 abbrev pub unchanged : ℕ → Kernel → Answer
-unchanged code k = record { code = code; running = record { 0 = running-in k }; released = record { 0 = 0 } }
+unchanged code k = record { code = code; running = record { 0 = runningOf k }; released = record { 0 = 0 } }
 
 unfoldable pub answer-to : Kernel → Spoken → Answer
 answer-to k s = cond (eqb (s .code) 0) (stepOf k (asked s) .answer) (unchanged (s .code) k)

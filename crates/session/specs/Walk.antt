@@ -9,7 +9,7 @@ use lib.Seq.{sets}
 use Rattle.rules.specs.Machine.{fresh}
 use Rattle.kernel.specs.declared.Kernel.{Kernel}
 use Rattle.kernel.specs.View.{encode}
-use Rattle.text.specs.Buffer.{contents-after, place-after}
+use Rattle.decimal.specs.Buffer.{contents-after, place-after}
 use Rattle.text.specs.Commands.{command-of}
 use Rattle.text.specs.Lines.{lines, last-piece, cuts, holds-after, held-bytes, nothing-held}
 use Rattle.text.specs.Printed.{walk-header, walk-line, header-room, walk-room}

@@ -2,7 +2,7 @@
 ghost use mathlib.Core.Path.{_≡_};
 ghost use Rattle.session.specs.Walk.{In-front};
 ghost use Rattle.session.specs.Draw as draw;
-ghost use Rattle.text.specs.Buffer.{contents-after, place-after};
+ghost use Rattle.decimal.specs.Buffer.{contents-after, place-after};
 ghost use Rattle.text.specs.Lines.{held-bytes};
 ghost use Rattle.text.specs.Printed.{draw-room};
 use crate::tell::following;

@@ -1,7 +1,7 @@
 -- The test of a saved state as the code makes it, table by table. (Crate kernel shows that it is document 01's soundness of the machine that
 -- the tables stand for, with every unused cell 0: no more and no less.)
 use Prim.Native.Nat.{ℕ}
-use mathlib.Core.Bool.{Bool, true, false, cond, not, _&&_, _||_}
+use mathlib.Core.Bool.{Bool, true, cond, not, _&&_, _||_}
 use mathlib.Core.List.{List, [], _∷_}
 use lib.Dec.{eqb, leb, ltb}
 use lib.ListN.{set, replicate}

@@ -128,7 +128,7 @@ fn is_calm(started: bool, clock: u64, first: u8, waiter: [u8; 8], held: &[u8; 32
     if started {
         return true;
     }
-    (clock == 0) & (first == 0) & nobody_waits(waiter) & line::is_free(held)
+    (clock == 0) & (first == 0) & nobody_waits(waiter) & order::is_free(held)
 }
 
 // The whole test, table by table: the state itself goes into no call, and a table of 32 is lent.
@@ -146,12 +146,12 @@ pub fn tested<'a>(
 ) -> bool
     ensures { λ r. ⌜ r ≡ test.testOf (now (base .entry)) (now (ready .entry)) (now (delayed .entry)) (now (held .entry)) (now (way .entry)) (now (until .entry)) ceiling waiter clock started ⌝ }
 {
-    let ended = line::is_ended(ready) & line::is_ended(delayed);
-    let falling = line::is_falling(ready, base, ceiling, held);
-    let rising = line::is_rising(delayed, until);
-    let place = line::mark_line(ready, READY, [0; 32]);
-    let place = line::mark_line(delayed, DELAYED, place);
-    let place = line::mark_waiting(waiter, WAITING, place);
+    let ended = order::is_ended(ready) & order::is_ended(delayed);
+    let falling = order::is_falling(ready, base, ceiling, held);
+    let rising = order::is_rising(delayed, until);
+    let place = order::mark_line(ready, READY, [0; 32]);
+    let place = order::mark_line(delayed, DELAYED, place);
+    let place = order::mark_waiting(waiter, WAITING, place);
     let tasks = tasks_fit(base, &place, held, way);
     let times = times_fit(until, &place);
     let holders = holders_fit(base, held, ceiling);

@@ -5,7 +5,7 @@
 --   a part past the end.
 -- * The place moves behind a record and is kept else.
 -- * Two answers that meet a public function's contract are one, and so are two final contents. Rules out: a contract that leaves an answer open. Which answer it is,
---   the definitions of specs/ say. Of a part that is handed back the contract fixes contents and address; see docs/TAPE.md for what is left.
+--   the definitions of specs/ say. (Why the clause is written out once more: crate record's Answers.) Of a part that is handed back the contract fixes contents and address; see docs/TAPE.md for what is left.
 -- Assumes nothing.
 use mathlib.Core.Path.{_≡_, refl}
 use mathlib.Core.List.{List}
@@ -65,12 +65,15 @@ place-moves s at = go (stands s at)
 
 -- ---- No second answer
 
--- read_at, number, code_at, next_at: a contract that is an equation. (So are those of header and record_of: crate record's Answers.)
+-- read_at, number, place, code_at, next_at: a contract that is an equation. (So are those of header and record_of: crate record's Answers.)
 pub one-read : (s : List ℕ) (at : ℕ) (r r′ : Read) → r ≡ readOf s at → r′ ≡ readOf s at → r ≡ r′
 one-read s at r r′ = one-answer
 
 pub one-number : (r : Read) (c c′ : ℕ) → c ≡ numberOf r → c′ ≡ numberOf r → c ≡ c′
 one-number r c c′ = one-answer
+
+pub one-place-of : (at : ℕ) (r : Read) (n n′ : ℕ) → n ≡ placeOf at r → n′ ≡ placeOf at r → n ≡ n′
+one-place-of at r n n′ = one-answer
 
 pub one-code : (s : List ℕ) (at c c′ : ℕ) → c ≡ codeAt s at → c′ ≡ codeAt s at → c ≡ c′
 one-code s at c c′ = one-answer

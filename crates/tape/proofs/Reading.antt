@@ -8,6 +8,7 @@ use native.Mathlib.Omega.{arith}
 use lib.ListN.{length, take, drop}
 use lib.Dec.{ltb, eqb}
 use borrow.Author.Tests.{ltb-false, eqb-true, eqb-false, eq-eqb, ne-eqb, lt-ltb, le-ltb}
+use Rattle.record.specs.declared.Record.{Record}
 use Rattle.record.specs.Form.{recordOf, marked, headerFields, commandFields, isSeed}
 use Rattle.record.specs.Fault.{faultOf}
 use Rattle.record.proofs.Faults.{bytesFault, number, Number, numbered, right, wrong, unseeded}
@@ -74,6 +75,10 @@ stands s at = go (eqb (at % 16) 0) refl (ltb (length s) at) (eqb at (length s)) 
 -- a part of 16 bytes, as the code cuts it
 pub sixteen : (s : List ℕ) (at : ℕ) → take (at + 16 - at) (drop at s) ≡ take 16 (drop at s)
 sixteen s at = let e : at + 16 - at ≡ 16 = omega arith in ap (λ (n : ℕ). take n (drop at s)) e
+
+-- the number, by what the code's four calls ensure (a `cc` over all that is known took three seconds)
+pub number-so : {c f : ℕ} {t : Bool} {r : Record} (at : ℕ) (p : List ℕ) → c ≡ cond t f 15 → t ≡ marked p → f ≡ faultOf at r → r ≡ recordOf p → c ≡ bytesFault at p
+number-so at p e m f r = rw (e, m, f, r)
 
 module _ (at : ℕ) (p : List ℕ) (c : ℕ) (e : c ≡ bytesFault at p) where
   pub judged-not : (c ≡ 0 → ⊥) → Refused c ≡ judged at p

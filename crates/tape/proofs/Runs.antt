@@ -25,7 +25,8 @@ use Rattle.tape.proofs.Writing.{accepted}
 use Rattle.tape.proofs.Reading.{read-end, Stands, stands, found, end, no-record, no-seed}
 use Rattle.tape.proofs.RoundTrip.{found-there, spilled, before, later, length-kept, is-there}
 
-tape-long : (rs : List Record) → length (tapeOf rs) ≡ 16 * length rs
+-- a run's tape has 16 bytes for each record
+pub tape-long : (rs : List Record) → length (tapeOf rs) ≡ 16 * length rs
 tape-long [] = refl
 tape-long (r ∷ rs) = length-append (bytesOf r) (tapeOf rs) ∙ omega (arith, sixteen-long r, tape-long rs)
 
@@ -50,7 +51,7 @@ run-spilled (r ∷ rs) s at t =
     ∙ rw (up-to s at r (t .0), rest, append-assoc (take at s) (bytesOf r), append-assoc (bytesOf r) (tapeOf rs))
 
 -- the end of a tape that is not empty
-end-there : (s : List ℕ) (at : ℕ) → at % 16 ≡ 0 → at ≡ length s → 0 < at → readOf s at ≡ End
+pub end-there : (s : List ℕ) (at : ℕ) → at % 16 ≡ 0 → at ≡ length s → 0 < at → readOf s at ≡ End
 unfolding endOf
 end-there s at w e h = let n : length s ≡ 0 → ⊥ = λ z. omega arith in sym (read-end s at w (omega arith) e) ∙ rw (ne-eqb (length s) 0 n)
 
@@ -83,12 +84,13 @@ run-read s r rs t =
 
 -- ---- Read, then written
 
-end-place : (s : List ℕ) (at : ℕ) → readOf s at ≡ End → at ≡ length s
+-- the end is answered at the end of a tape, and only of one that has a byte
+pub end-place : (s : List ℕ) (at : ℕ) → readOf s at ≡ End → (at ≡ length s) × (0 < length s)
 end-place s at = go (stands s at)
   where
-    go : {x : Read} → Stands s at x → x ≡ End → at ≡ length s
+    go : {x : Read} → Stands s at x → x ≡ End → (at ≡ length s) × (0 < length s)
     go (found w l f) e = let z : _≡_ {A = ℕ} 0 1 = cc in absurd (omega arith)
-    go (end w l f) e = l
+    go (end w l f) e = (l, f)
     go no-record e = let z : _≡_ {A = ℕ} 0 1 = cc in absurd (omega arith)
     go (no-seed a l) e = let z : _≡_ {A = ℕ} 0 1 = cc in absurd (omega arith)
 
@@ -100,7 +102,7 @@ others e = cc
 
 module _ (s : List ℕ) (small : (i : ℕ) → getD s i 0 < 256) where
   run-there : (rs : List Record) (at : ℕ) → answers (suc (length rs)) s at ≡ foundAll at rs → (drop at s ≡ tapeOf rs) × Takes (length s) at rs
-  run-there [] at e = (ap (λ (n : ℕ). drop n s) (end-place s at (first e)) ∙ drop-length s, tt)
+  run-there [] at e = (ap (λ (n : ℕ). drop n s) (end-place s at (first e) .0) ∙ drop-length s, tt)
   run-there (r ∷ rs) at e =
       let k = is-there s small at r (at + 16) (first e) in
       let next = run-there rs (at + 16) (rw (next-is s at r (at + 16) (first e)) at (others e)) in (

@@ -132,7 +132,8 @@ fn size(r: Read) -> usize
     }
 }
 
-fn place(at: usize, r: Read) -> usize
+// The place behind what was read at `at`: the record's end, or the same place where there is no record.
+pub fn place(at: usize, r: Read) -> usize
     ensures { λ n. ⌜ n ≡ placeOf at r ⌝ }
 {
     match r {

@@ -1,5 +1,5 @@
 -- No second answer of what bench/tape calls: one sum meets the contract of the pass over a tape, and one final content of the buffer that of the filling.
--- Assumes nothing.
+-- (Why the clause is written out once more: crate record's Answers.) Assumes nothing.
 use Prim.Native.Nat.{ℕ}
 use mathlib.Core.Path.{_≡_}
 use mathlib.Core.List.{List}

@@ -4,7 +4,6 @@ use tape::Record;
 ghost use mathlib.Core.Path.{_≡_};
 ghost use Rattle.record.specs.Form.{headerOf};
 ghost use Rattle.tape.specs.Write.{writeOf};
-ghost use Rattle.tape.specs.Read.{placeOf};
 ghost use Rattle.tape_bench.specs.Pass.{valueOf, turnOf, passed, ticks, filled};
 
 struct Pass {
@@ -22,22 +21,12 @@ fn value_in(r: Read) -> u64
     }
 }
 
-fn behind(at: usize, r: Read) -> usize
-    ensures { λ n. ⌜ n ≡ placeOf at r ⌝ }
-{
-    match r {
-        Read::Found(_, next) => next,
-        Read::End => at,
-        Read::Refused(_) => at,
-    }
-}
-
 fn turn(p: Pass, r: Read) -> Pass
     ensures { λ q. ⌜ q ≡ turnOf p r ⌝ }
 {
     let v = value_in(r);
     Pass {
-        at: behind(p.at, r),
+        at: tape::place(p.at, r),
         sum: p.sum ^ v,
     }
 }

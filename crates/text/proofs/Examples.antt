@@ -3,7 +3,7 @@ use Prim.Native.Nat.{ℕ}
 use mathlib.Core.Path.{_≡_, refl}
 use mathlib.Core.List.{[], _∷_}
 use Rattle.text.specs.declared.command.Spoken.{Spoken}
-use Rattle.text.specs.Decimal.{shortest, value-from, number-of, decimal, decimal-in}
+use Rattle.decimal.specs.Decimal.{shortest, value-from, number-of, decimal, decimal-in}
 use Rattle.text.specs.Words.{bytes, before, onward, same}
 use Rattle.text.specs.Commands.{named-from, op-named, decimal-next, operand, spoken-by, command-of, no-command}
 use Rattle.text.specs.FirstLine.{seed-of, text-next, decimals-next, settings-of, fair, judged, refused-with, first-line-of}

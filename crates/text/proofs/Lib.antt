@@ -1,12 +1,9 @@
-pub mod Bools
 pub mod Stores
-pub mod Digits
 pub mod Scan
 pub mod Parts
 pub mod Opening
 pub mod Kept
 pub mod Holding
-pub mod BothWays
 pub mod OneLine
 pub mod Pieces
 pub mod Telling

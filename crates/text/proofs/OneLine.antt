@@ -2,22 +2,20 @@
 -- Part by part: the word, then each operand with the rest of the line behind it. Assumes nothing.
 use Prim.Native.Nat.{ℕ, suc, _+_, _-_, _^_, _≤_, _<_}
 use native.Mathlib.Omega.{arith}
-use mathlib.Core.Bool.{Bool, true, false, cond, not, _&&_}
+use mathlib.Core.Bool.{Bool, true, false, cond, not, _&&_, false≢true}
 use mathlib.Core.Path.{_≡_, refl, ap, sym, _∙_}
 use mathlib.Core.List.{List, [], _∷_, _++_, append-nil}
 use borrow.Author.Tests.{le-leb, leb-true, ne-eqb, eqb-true, not-true}
 use lib.Dec.{eqb, leb}
 use lib.ListN.{length, getD, length-append}
 use Rattle.rules.specs.Line.{every, empty, all-below}
-use Rattle.rules.proofs.Tests.{and-true, tests-all-below, tests-and, tests-eq, tests-le, tests-is, tests-empty}
+use Rattle.rules.proofs.Tests.{both-true, tests-all-below, tests-and, tests-eq, tests-le, tests-is, tests-empty}
 use Rattle.text.specs.declared.command.Spoken.{Spoken}
-use Rattle.text.specs.Decimal.{digit, number-of, decimal}
+use Rattle.decimal.specs.Decimal.{digit, number-of, decimal}
 use Rattle.text.specs.Words.{before, onward, word, behind, same}
 use Rattle.text.specs.Commands.{Part, words, named-from, op-named, uses-a, uses-b, uses-value, decimal-next, operand, spoken-by, command-of, said, line-of}
-use Rattle.text.proofs.Bools.{no-true}
 use Rattle.text.proofs.Scan.{word-behind}
-use Rattle.text.proofs.Parts.{number-bound}
-use Rattle.text.proofs.BothWays.{reads-back, prints-back, decimal-digits-only, decimal-length}
+use Rattle.decimal.proofs.BothWays.{reads-back, prints-back, number-bound, decimal-digits-only, decimal-length}
 
 -- ---- a word, and a rest that is empty or starts with a blank
 
@@ -32,7 +30,7 @@ module _ (r : List ℕ) (a : apart r) where
   unfolding before onward
   word-of [] e = a
   word-of (b ∷ w) e =
-      let p = and-true (no-blank b) (every no-blank w) e in
+      let p = both-true (no-blank b) (every no-blank w) e in
       let n : eqb b 32 ≡ false = not-true (eqb b 32) (p .0) in
       let q = word-of w (p .1) in
       (rw (n, q .0), rw (n, q .1))
@@ -52,8 +50,8 @@ said-apart false n r a = a
 digits-no-blank : (w : List ℕ) → every digit w ≡ true → every no-blank w ≡ true
 digits-no-blank [] e = refl
 digits-no-blank (b ∷ w) e =
-    let p = and-true (digit b) (every digit w) e in
-    let g : 48 ≤ b = leb-true 48 b (and-true (leb 48 b) (leb b 57) (p .0) .0) in
+    let p = both-true (digit b) (every digit w) e in
+    let g : 48 ≤ b = leb-true 48 b (both-true (leb 48 b) (leb b 57) (p .0) .0) in
     rw (ne-eqb b 32 (λ z. omega arith), digits-no-blank w (p .1))
 
 -- ---- an operand, said and read
@@ -75,25 +73,25 @@ record Operand-read (used : Bool) (most : ℕ) (l : List ℕ) : Type 0 where
 operand-read : (used : Bool) (most : ℕ) (l : List ℕ) → most < 10 ^ 20 → operand used most l .fine ≡ true → Operand-read used most l
 unfolding operand decimal-next
 operand-read false most l h e = record { line = refl; bound = omega arith; unused-zero = λ z. refl }
-operand-read true most [] h e = no-true e
+operand-read true most [] h e = absurd (false≢true e)
 operand-read true most (b ∷ l) h e = go (eqb b 32) refl e
   where
     go : (t : Bool) → eqb b 32 ≡ t → operand true most (b ∷ l) .fine ≡ true → Operand-read true most (b ∷ l)
     go true t e =
         let f : number-of (word l) most .fine ≡ true = rw t at e in
         let d : decimal (number-of (word l) most .value) ≡ word l = prints-back (word l) most h f in
-        record { line = rw (t, eqb-true b 32 t, d) (ap (λ (m : List ℕ). 32 ∷ m) (word-behind 32 l)); bound = rw t (number-bound (word l) most); unused-zero = λ z. no-true (sym z) }
-    go false t e = no-true (rw t at e)
+        record { line = rw (t, eqb-true b 32 t, d) (ap (λ (m : List ℕ). 32 ∷ m) (word-behind 32 l)); bound = rw t (number-bound (word l) most); unused-zero = λ z. absurd (false≢true (sym z)) }
+    go false t e = absurd (false≢true (rw t at e))
 
 -- ---- the word, said and read
 
 same-is : (v w : List ℕ) → same v w ≡ true → v ≡ w
 unfolding same
 same-is [] [] e = refl
-same-is [] (b ∷ w) e = no-true e
-same-is (a ∷ v) [] e = no-true e
+same-is [] (b ∷ w) e = absurd (false≢true e)
+same-is (a ∷ v) [] e = absurd (false≢true e)
 same-is (a ∷ v) (b ∷ w) e =
-    let p = and-true (eqb a b) (same v w) e in
+    let p = both-true (eqb a b) (same v w) e in
     let h : a ≡ b = eqb-true a b (p .0) in
     let t : v ≡ w = same-is v w (p .1) in
     cc
@@ -218,10 +216,10 @@ operands-read op l = go (fits-all) refl
 
     go : (t : Bool) → fits-all ≡ t → spoken-by op l .code ≡ 0 → Operands-read op l (spoken-by op l)
     go true t e =
-        let p4 = and-true (leb 1 op && pa .fine && pb .fine && pv .fine) (empty (pv .left)) t in
-        let p3 = and-true (leb 1 op && pa .fine && pb .fine) (pv .fine) (p4 .0) in
-        let p2 = and-true (leb 1 op && pa .fine) (pb .fine) (p3 .0) in
-        let p1 = and-true (leb 1 op) (pa .fine) (p2 .0) in
+        let p4 = both-true (leb 1 op && pa .fine && pb .fine && pv .fine) (empty (pv .left)) t in
+        let p3 = both-true (leb 1 op && pa .fine && pb .fine) (pv .fine) (p4 .0) in
+        let p2 = both-true (leb 1 op && pa .fine) (pb .fine) (p3 .0) in
+        let p1 = both-true (leb 1 op) (pa .fine) (p2 .0) in
         let ra = operand-read (uses-a op) 255 l (omega arith) (p1 .1) in
         let rb = operand-read (uses-b op) 255 (pa .left) (omega arith) (p2 .1) in
         let rv = operand-read (uses-value op) 18446744073709551615 (pb .left) (omega arith) (p3 .1) in

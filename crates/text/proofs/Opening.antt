@@ -2,7 +2,7 @@
 use Prim.Native.Nat.{ℕ, suc, _+_, _-_, _≤_, _<_, min}
 use native.Mathlib.Omega.{arith}
 use native.Mathlib.Numerals.{add-one}
-use mathlib.Core.Bool.{Bool, true, false, cond, not, _&&_}
+use mathlib.Core.Bool.{Bool, true, false, cond, not, _&&_, and-true, and-assoc}
 use mathlib.Core.Path.{_≡_, refl, ap, sym, _∙_}
 use mathlib.Core.List.{List, [], _∷_, _++_, append-nil}
 use borrow.Author.Tests.{le-leb, lt-leb, lt-ltb, le-ltb}
@@ -11,17 +11,17 @@ use lib.ListN.{length, take, drop, set, getD, replicate, drop-of-length-le, leng
 use lib.Seq.{drop-cons, drop-drop, take-all, take-suc-set, append-snoc}
 use Rattle.rules.specs.Line.{every, empty}
 use Rattle.text.specs.declared.command.Operand.{Operand}
-use Rattle.text.specs.declared.decimal.Reading.{Reading}
+use Rattle.decimal.specs.declared.Reading.{Reading}
 use Rattle.text.specs.declared.first.SeedText.{SeedText}
 use Rattle.text.specs.declared.first.Settings.{Settings}
 use Rattle.text.specs.declared.first.Eight.{Eight}
-use Rattle.text.specs.Decimal.{number-of}
+use Rattle.decimal.specs.Decimal.{number-of}
+use Rattle.decimal.proofs.BothWays.{number-bound}
 use Rattle.text.specs.Words.{bytes, before, word, behind, same}
 use Rattle.text.specs.Commands.{Reads, decimal-next}
 use Rattle.text.specs.FirstLine.{ReadsEight, word-most, seed-of, text-next, decimals-next, settings-of, fair, judged, refused-with, first-line-of}
-use Rattle.text.proofs.Bools.{and-assoc, and-with-true}
 use Rattle.text.proofs.Scan.{differ-in-length, word-part, behind-part}
-use Rattle.text.proofs.Parts.{all-read, number-bound, decimal-bound}
+use Rattle.text.proofs.Parts.{all-read, decimal-bound}
 
 -- ---- seed text
 
@@ -92,7 +92,7 @@ one-filled line at fine values next i x h f r =
       count = omega arith;
       within = r .within;
       eight = length-set values i (x .value) ∙ f .eight;
-      all-fine = ff ∙ and-assoc fine (x .fine) (decimals-next k word-most (drop (x .next) line) .fine);
+      all-fine = ff ∙ sym (and-assoc fine (x .fine) (decimals-next k word-most (drop (x .next) line) .fine));
       all-values = fv ∙ rw t (sym (append-snoc (take i values) (x .value) (decimals-next k word-most (drop (x .next) line) .values)));
       all-left = fl;
     }
@@ -107,7 +107,7 @@ all-filled line at fine values next i h f =
     let fv = rw e at (f .all-values) in
     let fl = rw e at (f .all-left) in
     record {
-      fine = sym (ff ∙ and-with-true fine);
+      fine = sym (ff ∙ and-true fine);
       values = sym (fv ∙ append-nil (take i values) ∙ take-all i values l);
       left = sym fl;
       within = f .within;

@@ -5,16 +5,17 @@ use native.Mathlib.Numerals.{add-one}
 use mathlib.Core.Bool.{Bool, true, false, cond, _&&_}
 use mathlib.Core.Path.{_≡_, refl, ap, sym, _∙_}
 use mathlib.Core.List.{List, [], _∷_}
-use borrow.Author.Tests.{eq-eqb, ne-eqb, le-leb, lt-leb, leb-true}
+use borrow.Author.Tests.{eq-eqb, ne-eqb, le-leb, lt-leb}
 use lib.Dec.{eqb, leb, leb·suc-suc}
 use lib.ListN.{length, take, drop, getD, drop-of-length-le}
 use lib.Seq.{drop-cons}
-use Rattle.rules.specs.Line.{every, empty}
+use Rattle.rules.specs.Line.{empty}
 use Rattle.text.specs.declared.command.Operand.{Operand}
-use Rattle.text.specs.declared.decimal.Reading.{Reading}
-use Rattle.text.specs.Decimal.{digit, shortest, value-from, number-of}
+use Rattle.decimal.specs.declared.Reading.{Reading}
+use Rattle.decimal.specs.Decimal.{number-of}
 use Rattle.text.specs.Words.{bytes, before, onward, word, behind, same}
 use Rattle.text.specs.Commands.{Part, Reads, decimal-next, operand, uses-a, uses-b, uses-value, op-named, named-from, spoken-by, command-of, no-command}
+use Rattle.decimal.proofs.BothWays.{number-bound}
 use Rattle.text.proofs.Scan.{word-part, behind-part, take-before, drop-before}
 
 abbrev nothing-at : ℕ → Operand
@@ -52,15 +53,6 @@ module _ (line : List ℕ) (at most : ℕ) where
   not-in-use used e h = rw e (record { fine = refl; value = refl; left = refl; within = h })
 
 -- ---- bounds
-
-pub number-bound : (w : List ℕ) (most : ℕ) → number-of w most .value ≤ most
-unfolding number-of
-number-bound w most = go (shortest w && every digit w) (leb (value-from 0 w) most) refl
-  where
-    go : (t b : Bool) → b ≡ leb (value-from 0 w) most → cond {A = Reading} (t && b) (record { fine = true; value = value-from 0 w }) (record { fine = false; value = 0 }) .value ≤ most
-    go true true e = leb-true (value-from 0 w) most (sym e)
-    go true false e = omega arith
-    go false b e = omega arith
 
 pub decimal-bound : (most : ℕ) (l : List ℕ) → decimal-next most l .value ≤ most
 unfolding decimal-next

@@ -2,9 +2,9 @@
 -- reader, who keeps 129 bytes of a line at most. Assumes nothing.
 use Prim.Native.Nat.{ℕ, zero, suc, _+_, _-_, _≤_, _<_, min}
 use native.Mathlib.Omega.{arith}
-use mathlib.Core.Bool.{Bool, true, false, cond}
+use mathlib.Core.Bool.{Bool, true, false, cond, false≢true}
 use mathlib.Core.Path.{_≡_, refl, ap, sym, _∙_}
-use mathlib.Core.List.{List, [], _∷_, _++_, append-assoc, append-nil, map}
+use mathlib.Core.List.{List, [], _∷_, _++_, append-assoc, append-nil, map, map-append}
 use lib.Dec.{eqb}
 use lib.ListN.{length, take, drop, set, length-take, length-drop}
 use lib.Seq.{sets, length-sets, take-all, append-snoc, drop-drop, take-take}
@@ -12,7 +12,6 @@ use Rattle.rules.specs.Line.{empty}
 use Rattle.text.specs.declared.split.Held.{Held}
 use Rattle.text.specs.Words.{before, onward, line-end}
 use Rattle.text.specs.Lines.{ended, begins, last-piece, lines, kept, held-bytes, nothing-held, hold-more, end-from, cut-of, cuts, holds-after, lines-of-pieces, joined}
-use Rattle.text.proofs.Bools.{no-true}
 use Rattle.text.proofs.Holding.{held-part}
 
 -- ---- pieces of the definitions
@@ -136,12 +135,12 @@ not-ended (b ∷ l) p e = go (eqb b line-end) refl e (not-ended l (p ++ (b ∷ [
     go : (t : Bool) → eqb b line-end ≡ t → empty (cond t (b ∷ l) (onward line-end l)) ≡ true
         → (empty (onward line-end l) ≡ true → (ended (p ++ (b ∷ [])) l ≡ []) × (begins (p ++ (b ∷ [])) l ≡ p ++ (b ∷ []) ++ before line-end l))
         → (cond t (p ∷ ended [] l) (ended (p ++ (b ∷ [])) l) ≡ []) × (cond t (begins [] l) (begins (p ++ (b ∷ [])) l) ≡ p ++ cond t [] (b ∷ before line-end l))
-    go true t f ih = no-true f
+    go true t f ih = absurd (false≢true f)
     go false t f ih = let r = ih f in (r .0, r .1 ∙ append-snoc p b (before line-end l))
 
 one-ended : (l p : List ℕ) → empty (onward line-end l) ≡ false → (ended p l ≡ (p ++ before line-end l) ∷ ended [] (behind-end l)) × (begins p l ≡ begins [] (behind-end l))
 unfolding ended begins before onward behind-end
-one-ended [] p e = no-true (sym e)
+one-ended [] p e = absurd (false≢true (sym e))
 one-ended (b ∷ l) p e = go (eqb b line-end) refl e (one-ended l (p ++ (b ∷ [])))
   where
     go : (t : Bool) → eqb b line-end ≡ t → empty (cond t (b ∷ l) (onward line-end l)) ≡ false
@@ -153,7 +152,7 @@ one-ended (b ∷ l) p e = go (eqb b line-end) refl e (one-ended l (p ++ (b ∷ [
 
 some-end : (l : List ℕ) → empty (onward line-end l) ≡ false → 0 < length l
 unfolding onward
-some-end [] e = no-true (sym e)
+some-end [] e = absurd (false≢true (sym e))
 some-end (b ∷ l) e = omega arith
 
 record Cuts-read (n : ℕ) (h : Held) (s : List ℕ) (at : ℕ) : Type 0 where
@@ -230,10 +229,6 @@ cuts-read (suc n) h s at e l = go (empty (onward line-end (drop at s))) refl (cu
 
 -- ---- pieces
 
-map-append : (xs ys : List (List ℕ)) → map kept (xs ++ ys) ≡ map kept xs ++ map kept ys
-map-append [] ys = refl
-map-append (x ∷ xs) ys = ap (λ (l : List (List ℕ)). kept x ∷ l) (map-append xs ys)
-
 piece-behind : (begun held p r : List ℕ) → kept held ≡ kept (begins begun p)
     → map kept (ended begun p) ++ map kept (ended held r ++ last-piece (begins held r)) ≡ map kept (ended begun (p ++ r) ++ last-piece (begins begun (p ++ r)))
 piece-behind begun held p r e =
@@ -243,11 +238,11 @@ piece-behind begun held p r e =
     rw (
       ended-append r begun p,
       begins-append r begun p,
-      map-append (ended held r) (last-piece (begins held r)),
+      map-append kept (ended held r) (last-piece (begins held r)),
       el,
       eb,
-      map-append (ended begun p ++ ended m r) (last-piece (begins m r)),
-      map-append (ended begun p) (ended m r),
+      map-append kept (ended begun p ++ ended m r) (last-piece (begins m r)),
+      map-append kept (ended begun p) (ended m r),
     )
     (sym (append-assoc (map kept (ended begun p)) (map kept (ended m r)) (map kept (last-piece (begins m r)))))
 

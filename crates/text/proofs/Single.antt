@@ -1,41 +1,23 @@
 -- No second answer: whatever meets the contract of a public function of text is the one answer that it has, and whatever it may leave in a buffer
 -- that it was lent is one contents. Rules out: a contract that leaves an answer open. Which answer it is, the definitions of specs/ say.
--- One law serves: a contract is an equation with what the definitions say, and two values equal to a third are equal.
--- Assumes nothing.
+-- (The laws, and why the contracts are written out once more: crate decimal, proofs/Single.) Assumes nothing.
 use Prim.Native.Nat.{ℕ}
-use mathlib.Core.Path.{_≡_, sym, _∙_}
+use mathlib.Core.Path.{_≡_}
 use mathlib.Core.List.{List}
+use Rattle.decimal.proofs.Single.{one, one-each, Puts}
 use Rattle.text.specs.declared.command.Spoken.{Spoken}
-use Rattle.text.specs.declared.decimal.Reading.{Reading}
 use Rattle.text.specs.declared.first.SeedText.{SeedText}
 use Rattle.text.specs.declared.first.FirstLine.{FirstLine}
 use Rattle.text.specs.declared.print.Row.{Row}
 use Rattle.text.specs.declared.split.Held.{Held}
 use Rattle.text.specs.declared.split.Cut.{Cut}
 use Rattle.text.specs.declared.split.Told.{Told}
-use Rattle.text.specs.Buffer.{contents-after, place-after}
 use Rattle.text.specs.Commands.{command-of}
-use Rattle.text.specs.Decimal.{number-of, decimal}
 use Rattle.text.specs.FirstLine.{seed-of, first-line-of}
 use Rattle.text.specs.Lines.{nothing-held, held-bytes, hold-more, end-from, cut-of, told-of}
 use Rattle.text.specs.Printed.{walk-header, draw-header, walk-line, draw-line, header-room, walk-room, draw-room}
 
--- ---- the two laws
-
-pub one : {A : Type 0} {d r s : A} → r ≡ d → s ≡ d → r ≡ s
-one p q = p ∙ sym q
-
-pub one-each : {A B : Type 0} {d r s : A} {e a b : B} → (r ≡ d) × (a ≡ e) → (s ≡ d) × (b ≡ e) → (r ≡ s) × (a ≡ b)
-one-each p q = (one (p .0) (q .0), one (p .1) (q .1))
-
--- a text put into a buffer at a place: the place behind it, and the buffer then
-abbrev pub Puts : ℕ → List ℕ → ℕ → List ℕ → ℕ → List ℕ → Type 0
-Puts room out at text place after = (place ≡ place-after room out at text) × (after ≡ contents-after room out at text)
-
 -- ---- what reads
-
-pub number-single : (word : List ℕ) (most : ℕ) (r s : Reading) → r ≡ number-of word most → s ≡ number-of word most → r ≡ s
-number-single word most r s = one
 
 pub seed-text-single : (word : List ℕ) (r s : SeedText) → r ≡ seed-of word → s ≡ seed-of word → r ≡ s
 seed-text-single word r s = one
@@ -70,9 +52,6 @@ pub next-command-single : (h : Held) (l : List ℕ) (at : ℕ) (r s : Told) → 
 next-command-single h l at r s = one
 
 -- ---- what prints
-
-pub put-decimal-single : (out : List ℕ) (at n r s : ℕ) (a b : List ℕ) → Puts 20 out at (decimal n) r a → Puts 20 out at (decimal n) s b → (r ≡ s) × (a ≡ b)
-put-decimal-single out at n r s a b = one-each
 
 pub put-walk-header-single : (out : List ℕ) (at r s : ℕ) (a b : List ℕ) → Puts header-room out at walk-header r a → Puts header-room out at walk-header s b → (r ≡ s) × (a ≡ b)
 put-walk-header-single out at r s a b = one-each

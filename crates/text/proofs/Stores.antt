@@ -1,43 +1,24 @@
--- Laws of `sets`, a run of stores: one behind another is one run. Assumes nothing.
-use Prim.Native.Nat.{ℕ, suc, _+_, _-_, _<_, _≤_}
+-- Text that stands in a buffer where it was put, one behind another, and the loop that copies. Assumes nothing.
+use Prim.Native.Nat.{ℕ, _+_, _-_, _<_, _≤_}
 use native.Mathlib.Numerals.{add-one}
-use native.Mathlib.Nat.{add-zero, add-suc, suc-add}
+use native.Mathlib.Nat.{add-suc}
 use native.Mathlib.Omega.{arith}
-use mathlib.Core.Path.{_≡_, refl, ap, sym, _∙_}
+use mathlib.Core.Path.{_≡_, refl, sym, _∙_}
 use mathlib.Core.List.{List, [], _∷_, _++_}
 use mathlib.Core.Bool.{Bool, true, false}
 use borrow.Author.Tests.{le-leb, lt-leb, leb-true, leb-false}
 use lib.ListN.{length, set, drop, getD, length-append, drop-of-length-le}
-use lib.Seq.{sets, set-comm, drop-cons}
+use lib.Seq.{sets, drop-cons}
 use lib.Dec.{leb}
-use Rattle.text.specs.Printed.{Written}
-use Rattle.text.specs.Buffer.{contents-after, place-after}
+use Rattle.decimal.specs.Decimal.{decimal}
+use Rattle.decimal.specs.Buffer.{contents-after, place-after}
+use Rattle.decimal.proofs.Stores.{sets-append, put}
+use Rattle.decimal.proofs.BothWays.{decimal-most}
+use Rattle.text.specs.Printed.{Written, field}
 
-pub sets-append : (l : List ℕ) (i : ℕ) (xs ys : List ℕ) → sets l i (xs ++ ys) ≡ sets (sets l i xs) (i + length xs) ys
-sets-append l i [] ys = rw add-zero
-sets-append l i (x ∷ xs) ys = rw (add-suc, ← suc-add) (sets-append (set l i x) (suc i) xs ys)
-
--- the last store may be made first
-pub sets-last : (l : List ℕ) (i : ℕ) (xs : List ℕ) (a : ℕ) → sets l i (xs ++ (a ∷ [])) ≡ sets (set l (i + length xs) a) i xs
-sets-last l i [] a = rw add-zero
-sets-last l i (x ∷ xs) a =
-    sets-last (set l i x) (suc i) xs a
-    ∙ ap (λ (m : List ℕ). sets m (suc i) xs)
-    (ap (λ (k : ℕ). set (set l i x) k a) (suc-add i (length xs) ∙ sym (add-suc i (length xs)))
-    ∙ set-comm l i (i + suc (length xs)) x a (λ e. omega arith))
-
--- ---- text put where there is room for it
-
-module _ (room : ℕ) (out : List ℕ) (at : ℕ) (text : List ℕ) where
-  pub refused : length out < at + room → (at ≡ place-after room out at text) × (out ≡ contents-after room out at text)
-  refused h = (rw (lt-leb (at + room) (length out) h), rw (lt-leb (at + room) (length out) h))
-
-  pub put : at + room ≤ length out → (at + length text ≡ place-after room out at text) × (sets out at text ≡ contents-after room out at text)
-  put h = (rw (le-leb (at + room) (length out) h), rw (le-leb (at + room) (length out) h))
-
-  pub written : (after : List ℕ) (next : ℕ) → at + room ≤ length out → Written out at text after next
-      → (next ≡ place-after room out at text) × (after ≡ contents-after room out at text)
-  written after next h w = (w .place ∙ put h .0, w .contents ∙ put h .1)
+pub written : (room : ℕ) (out : List ℕ) (at : ℕ) (text after : List ℕ) (next : ℕ) → at + room ≤ length out → Written out at text after next
+    → (next ≡ place-after room out at text) × (after ≡ contents-after room out at text)
+written room out at text after next h w = let p = put room out at text h in (w .place ∙ p .0, w .contents ∙ p .1)
 
 -- one text behind another
 pub and-then : {out o o′ : List ℕ} {at p q : ℕ} {xs ys : List ℕ} → Written out at xs o p → Written o p ys o′ q → Written out at (xs ++ ys) o′ q
@@ -46,6 +27,21 @@ and-then {out} {o} {o′} {at} {p} {q} {xs} {ys} w v =
       contents = v .contents ∙ rw (w .contents, w .place) (sym (sets-append out at xs ys));
       place = let e : p ≡ at + length xs = w .place in let d : q ≡ p + length ys = v .place in rw length-append (omega arith);
     }
+
+-- a decimal, and the byte behind it
+module _ (out : List ℕ) (at n next : ℕ) (after : List ℕ) (h : at + 21 ≤ length out) (ep : next ≡ place-after 20 out at (decimal n))
+    (ec : after ≡ contents-after 20 out at (decimal n)) where
+  decimal-place : next ≡ at + length (decimal n)
+  decimal-place = ep ∙ sym (put 20 out at (decimal n) (omega arith) .0)
+
+  pub decimal-within : next ≤ at + 20
+  decimal-within = let e : next ≡ at + length (decimal n) = decimal-place in omega (arith, decimal-most n)
+
+  pub field-written : (end : ℕ) → Written out at (field n end) (set after next end) (next + 1)
+  field-written end =
+      let e : next ≡ at + length (decimal n) = decimal-place in
+      let c : after ≡ sets out at (decimal n) = ec ∙ sym (put 20 out at (decimal n) (omega arith) .1) in
+      record { contents = rw (c, e) (sym (sets-append out at (decimal n) (end ∷ []))); place = rw length-append (omega arith) }
 
 -- ---- the loop that copies, at index i
 

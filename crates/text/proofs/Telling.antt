@@ -4,7 +4,7 @@ use Prim.Native.Nat.{ℕ, zero, suc, _+_, _-_, _≤_, _<_}
 use native.Mathlib.Omega.{arith}
 use mathlib.Core.Bool.{Bool, true, false, cond}
 use mathlib.Core.Path.{_≡_, refl, ap, sym, _∙_}
-use mathlib.Core.List.{List, [], _∷_, _++_, map}
+use mathlib.Core.List.{List, [], _∷_, _++_, map, map-append}
 use lib.ListN.{length, take, drop}
 use Rattle.rules.specs.Line.{empty}
 use Rattle.text.specs.declared.split.Held.{Held}
@@ -68,16 +68,12 @@ last-tells w = go (empty w)
     go true = refl
     go false = refl
 
-map-append : (xs ys : List (List ℕ)) → map command-of (xs ++ ys) ≡ map command-of xs ++ map command-of ys
-map-append [] ys = refl
-map-append (x ∷ xs) ys = ap (λ (l : List Spoken). command-of x ∷ l) (map-append xs ys)
-
 pieces-tell : (ps : List (List ℕ)) (h : Held) → commands-of-pieces h ps ≡ map command-of (lines-of-pieces h ps)
 unfolding commands-of-pieces lines-of-pieces
 pieces-tell [] h = last-tells (held-bytes h)
 pieces-tell (p ∷ ps) h =
     rw (tells-cuts (suc (length p)) h p 0, pieces-tell ps (holds-after (suc (length p)) h p 0))
-    (sym (map-append (cuts (suc (length p)) h p 0) (lines-of-pieces (holds-after (suc (length p)) h p 0) ps)))
+    (sym (map-append command-of (cuts (suc (length p)) h p 0) (lines-of-pieces (holds-after (suc (length p)) h p 0) ps)))
 
 all-kept : (ls : List (List ℕ)) → map command-of (map kept ls) ≡ map command-of ls
 all-kept [] = refl

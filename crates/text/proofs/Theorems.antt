@@ -1,6 +1,6 @@
 -- What is promised of text, each statement in plain words first. The functions' contracts are equations with the definitions named here, so
 -- each statement holds of what the functions answer. Assumes nothing.
-use Prim.Native.Nat.{ℕ, _^_, _≤_, _<_}
+use Prim.Native.Nat.{ℕ, _≤_, _<_}
 use native.Mathlib.Omega.{arith}
 use mathlib.Core.Bool.{Bool, true, false, cond, _&&_}
 use mathlib.Core.Logic.{_↔_}
@@ -11,37 +11,21 @@ use lib.Dec.{eqb, leb}
 use lib.ListN.{length}
 use Rattle.rules.specs.Line.{all-below, one-if, empty, every}
 use Rattle.rules.specs.Refusals.{Operand, operands, unused, task, object, priority, barrier, time, ticks}
-use Rattle.rules.proofs.Tests.{and-true, tests-all-below, tests-and, tests-eq}
+use Rattle.rules.proofs.Tests.{both-true, tests-all-below, tests-and, tests-eq}
 use Rattle.text.specs.declared.command.Spoken.{Spoken}
-use Rattle.text.specs.declared.decimal.Reading.{Reading}
-use Rattle.text.specs.Decimal.{digit, number-of, decimal}
+use Rattle.decimal.specs.Decimal.{digit, number-of, decimal}
+use Rattle.decimal.proofs.BothWays.{number-parts, number-bound, digits-most}
+use Rattle.decimal.proofs.Theorems.{printed-reads, read-prints}
 use Rattle.text.specs.Commands.{uses-a, uses-b, uses-value, op-named, operand, spoken-by, command-of, no-command, line-of}
 use Rattle.text.specs.Words.{word, behind}
 use Rattle.text.specs.FirstLine.{seed-of, first-line-of}
 use Rattle.text.specs.Lines.{lines, kept, joined, nothing-held, lines-of-pieces, commands-of-pieces}
-use Rattle.text.proofs.Parts.{number-bound}
 use Rattle.text.proofs.Kept.{kept-says, kept-opens}
 use Rattle.text.proofs.OneLine.{Command, line-reads, line-said}
 use Rattle.text.proofs.Pieces.{pieces-whole}
 use Rattle.text.proofs.Telling.{pieces-told}
-use Rattle.text.proofs.BothWays as both
 
--- ---- decimals
-
--- Reading back a printed decimal gives the number. (Rules out a printer that drops, swaps or adds a digit, or pads with zeros.)
-pub printed-reads : (n most : ℕ) → n ≤ most → n < 2 ^ 64 → number-of (decimal n) most ≡ record { fine = true; value = n }
-printed-reads n most h g = both.reads-back n most h (omega arith)
-
--- Printing a read one gives the text. (Rules out a reader that takes "007", "+7" or "" for a number: their print is another text.)
-pub read-prints : (w : List ℕ) (most : ℕ) → most < 2 ^ 64 → number-of w most .fine ≡ true → decimal (number-of w most .value) ≡ w
-read-prints w most h e = both.prints-back w most (omega arith) e
-
--- No two numbers are printed as one text. (That a reader answers at all, and within its bound, is its contract.)
-pub one-number : (w : List ℕ) (m n : ℕ) → m < 2 ^ 64 → n < 2 ^ 64 → decimal m ≡ w → decimal n ≡ w → m ≡ n
-one-number w m n hm hn em en =
-    let a = printed-reads m 18446744073709551615 (omega arith) hm in
-    let b = printed-reads n 18446744073709551615 (omega arith) hn in
-    ap (λ (r : Reading). r .value) (sym a ∙ ap (λ (l : List ℕ). number-of l 18446744073709551615) (em ∙ sym en) ∙ b)
+-- ---- seed text
 
 -- Seed text that is accepted is 1 to 10 decimal digits, the decimal of a number 1..4294967295, and every such decimal is accepted. (Rules out a
 -- reader that takes a sign, a leading zero, 0, or a number that 32 bits would cut. That another text gets 17 is its contract.)
@@ -62,11 +46,11 @@ seed-read w = go (number-of w 4294967295 .fine && leb 1 (number-of w 4294967295 
   where
     go : (t : Bool) → (number-of w 4294967295 .fine && leb 1 (number-of w 4294967295 .value)) ≡ t → seed-of w .code ≡ 0 → Seed w
     go true t e =
-        let p = and-true (number-of w 4294967295 .fine) (leb 1 (number-of w 4294967295 .value)) t in
-        let d = both.number-parts w 4294967295 (p .0) in
+        let p = both-true (number-of w 4294967295 .fine) (leb 1 (number-of w 4294967295 .value)) t in
+        let d = number-parts w 4294967295 (p .0) in
         let r : decimal (number-of w 4294967295 .value) ≡ w = read-prints w 4294967295 (omega arith) (p .0) in
         let b : number-of w 4294967295 .value ≤ 4294967295 = number-bound w 4294967295 in
-        let l : length w ≤ 10 = rw r at (both.digits-most (number-of w 4294967295 .value) 9 (omega arith)) in
+        let l : length w ≤ 10 = rw r at (digits-most (number-of w 4294967295 .value) 9 (omega arith)) in
         record { text = rw (t, r); least = rw t (leb-true 1 (number-of w 4294967295 .value) (p .1)); most = rw t b; digits = d .digits; short = l }
     go false t e = absurd (let z : _≡_ {A = ℕ} 17 0 = rw t at e in omega arith)
 

@@ -9,7 +9,7 @@ use mathlib.Core.Path.{_≡_}
 use Rattle.rules.specs.Line.{among, empty}
 use Rattle.text.specs.declared.command.Spoken.{Spoken}
 use Rattle.text.specs.declared.command.Operand.{Operand}
-use Rattle.text.specs.Decimal.{decimal, number-of}
+use Rattle.decimal.specs.Decimal.{decimal, number-of}
 use Rattle.text.specs.Words.{bytes, blank, word, behind, same}
 
 -- the words, of op 1 to 11

@@ -11,7 +11,7 @@ use Rattle.text.specs.declared.first.SeedText.{SeedText}
 use Rattle.text.specs.declared.first.Settings.{Settings}
 use Rattle.text.specs.declared.first.FirstLine.{FirstLine}
 use Rattle.text.specs.declared.first.Eight.{Eight}
-use Rattle.text.specs.Decimal.{number-of}
+use Rattle.decimal.specs.Decimal.{number-of}
 use Rattle.text.specs.Words.{bytes, word, behind, same}
 use Rattle.text.specs.Commands.{Part, decimal-next}
 

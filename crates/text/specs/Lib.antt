@@ -1,6 +1,3 @@
-pub mod Decimal
-pub mod Method
-pub mod Buffer
 pub mod Words
 pub mod Commands
 pub mod Printed

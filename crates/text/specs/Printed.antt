@@ -5,7 +5,7 @@ use mathlib.Core.List.{List, [], _∷_, _++_}
 use lib.ListN.{length}
 use lib.Seq.{sets}
 use Rattle.text.specs.declared.print.Row.{Row}
-use Rattle.text.specs.Decimal.{decimal}
+use Rattle.decimal.specs.Decimal.{decimal}
 use Rattle.text.specs.Words.{bytes, blank, line-end}
 
 unfoldable pub walk-header : List ℕ

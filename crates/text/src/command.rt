@@ -1,13 +1,13 @@
 // Command lines: the command's word and its operands, single blanks, unsigned decimals.
 ghost use mathlib.Core.Bool.{cond};
 ghost use mathlib.Core.Path.{_≡_};
-ghost use Prim.Native.Nat.{_+_, _≤_};
+ghost use Prim.Native.Nat.{_≤_};
 ghost use lib.ListN.{length, drop};
 ghost use Rattle.text.specs.Words.{same};
 ghost use Rattle.text.specs.Commands.{op-named, uses-a, uses-b, uses-value, decimal-next, operand, command-of, no-command, Reads};
-use crate::decimal::number;
 use crate::word::find;
 use crate::word::same_bytes;
+use decimal::number;
 
 // What a line says: code 0 and a command, or 14 and zeros.
 pub struct Spoken {
@@ -52,6 +52,7 @@ fn op_of(word: &[u8]) -> u8
     named(word, b"create", 1, object)
 }
 
+// Whether a line of the op has the operand.
 fn takes_a(op: u8) -> bool
     ensures { λ r. ⌜ r ≡ uses-a op ⌝ }
 {

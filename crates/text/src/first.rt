@@ -1,7 +1,7 @@
 // Seed text, and the first line of draw.
 ghost use mathlib.Core.Path.{_≡_};
 ghost use mathlib.Core.Bool.{cond};
-ghost use Prim.Native.Nat.{_+_, _≤_};
+ghost use Prim.Native.Nat.{_≤_};
 ghost use lib.ListN.{length, drop};
 ghost use Rattle.rules.specs.Line.{every};
 ghost use lib.Dec.{leb};
@@ -9,9 +9,9 @@ ghost use Rattle.text.specs.Commands.{Reads};
 ghost use Rattle.text.specs.FirstLine.{ReadsEight, word-most, seed-of, text-next, decimals-next, settings-of, fair, judged, refused-with, first-line-of};
 use crate::command::Operand;
 use crate::command::next_decimal;
-use crate::decimal::number;
 use crate::word::find;
 use crate::word::same_bytes;
+use decimal::number;
 
 // Code 0 and the seed, or 17 and 0.
 pub struct SeedText {

@@ -1,6 +1,5 @@
-// Text: decimals, seed text, command lines, the first line of draw, and the lines that the programs print.
+// Text: seed text, command lines, the first line of draw, and the lines that the programs print.
 pub mod command;
-pub mod decimal;
 pub mod first;
 pub mod print;
 pub mod split;

@@ -3,11 +3,10 @@ ghost use mathlib.Core.Path.{_≡_};
 ghost use Prim.Native.Nat.{_+_, _≤_};
 ghost use lib.Dec.{leb};
 ghost use lib.ListN.{length};
-ghost use Rattle.text.specs.Buffer.{contents-after, place-after};
+ghost use Rattle.decimal.specs.Buffer.{contents-after, place-after};
 ghost use Rattle.text.specs.Words.{blank};
 ghost use Rattle.text.specs.Printed.{Written, field, walk-header, draw-header, answer-fields, walk-line, draw-line, header-room, walk-room, draw-room};
-use crate::decimal::put_field;
-use crate::decimal::wide;
+use decimal::put_decimal;
 
 // What a line shows. Walk leaves out a, b and value.
 pub struct Row {
@@ -34,12 +33,22 @@ fn put_bytes(out: &mut [u8], at: usize, text: &[u8]) -> usize
     at + i
 }
 
+// A decimal and the byte behind it, where there is room for 21 bytes; the next place.
+fn put_field(out: &mut [u8], at: usize, n: u64, end: u8) -> usize
+    requires { ⌜ at + 21 ≤ length (now out) ⌝ }
+    ensures { λ r. ⌜ Written (now (out .entry)) at (field n end) (now (out .exit)) r × (r ≤ at + 21) ⌝ }
+{
+    let next = put_decimal(out, at, n);
+    out[next] = end;
+    next + 1
+}
+
 // A number below 256, and a blank.
 fn put_small(out: &mut [u8], at: usize, n: u8) -> usize
     requires { ⌜ at + 21 ≤ length (now out) ⌝ }
     ensures { λ r. ⌜ Written (now (out .entry)) at (field n blank) (now (out .exit)) r × (r ≤ at + 21) ⌝ }
 {
-    put_field(out, at, wide(n), 32)
+    put_field(out, at, n as u64, 32)
 }
 
 // Whether `need` bytes are left behind a place.

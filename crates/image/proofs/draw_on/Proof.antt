@@ -1,7 +1,7 @@
 -- `draw_on` meets its contract: each exit by its law. Assumes nothing.
 use borrow.Author.Needs.{needs}
 use borrow.Author.Tests.{not-true, not-false}
-use mathlib.Core.Path.{_≡_, sym, ap, _∙_}
+use mathlib.Core.Path.{sym, ap, _∙_}
 use Rattle.kernel.specs.declared.Kernel.{Kernel}
 use Rattle.generator.specs.Public.{drawnOf}
 use Rattle.image.proofs.Exits.{formed-size, none-draw, answered-draw}

@@ -1,7 +1,7 @@
 -- `rvn_fresh` meets its contract: each exit by the length. Assumes nothing.
 use borrow.Author.Needs.{needs}
 use borrow.Author.Tests.{eq-eqb, ne-eqb}
-use mathlib.Core.Path.{_≡_, ap, _∙_}
+use mathlib.Core.Path.{ap, _∙_}
 use lib.ListN.{length}
 use Rattle.image.specs.Layout.{imageOf}
 use Rattle.image.specs.Calls.{freshAnswer, freshImage}

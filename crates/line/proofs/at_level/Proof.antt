@@ -1,5 +1,4 @@
 -- `line::at_level` meets its contract: placing is inserting where the test stops. Assumes nothing.
-use Prim.Native.Nat.{_-_}
 use Rattle.line.proofs.Laws.{place-lead}
 use Rattle.line.specs.Tables.{lower}
 use borrow.Author.Needs.{needs}

@@ -1,6 +1,6 @@
 -- `line::insert_at` meets its contract. The invariant: the result is what is written so far, then the rest moved back behind `carry`.
 -- Assumes nothing.
-use Prim.Native.Nat.{_+_, _-_}
+use Prim.Native.Nat.{_-_}
 use mathlib.Core.Path.{_≡_, refl, sym, _∙_}
 use native.Mathlib.Omega.{arith}
 use lib.ListN.{length, take, drop, length-set}

@@ -1,5 +1,4 @@
 -- `line::of_object` meets its contract: in the table it is the cell, past its end 0. Assumes nothing.
-use Prim.Native.Nat.{_-_}
 use mathlib.Core.Path.{_≡_}
 use lib.ListN.{length}
 use Rattle.line.proofs.Laws.{read-out}

@@ -1,5 +1,4 @@
 -- `line::with_task` meets its contract: in the table the cell is stored, past its end nothing is. Assumes nothing.
-use Prim.Native.Nat.{_-_}
 use mathlib.Core.Path.{_≡_}
 use lib.ListN.{length}
 use Rattle.line.proofs.Laws.{store-out}

@@ -1,38 +1,51 @@
--- `record::bytes_of` meets its contract: the literal is the definition, and each remainder fits a byte. Assumes nothing.
+-- `record::bytes_of` meets its contract: the literal is the definition, its last 8 bytes the value's. Assumes nothing.
 use borrow.Author.Needs.{needs}
 use Rattle.record.specs.Form.{bytesOf}
 use Rattle.record.proofs.bytes_of.Statement.{statement}
 use Rattle.record.proofs.bytes_of.Tie as tie
 
-cast-t4 : tie.Need-cast-t4
-cast-t4 c = search needs
+number-bytes-requires : tie.Need-number-bytes-requires
+number-bytes-requires c κs = search needs
 
-cast-t7 : tie.Need-cast-t7
-cast-t7 c = search needs
+array-read-t6 : tie.Need-array-read-t6
+array-read-t6 c = search needs
 
-cast-t10 : tie.Need-cast-t10
-cast-t10 c = search needs
+array-read-t9 : tie.Need-array-read-t9
+array-read-t9 c = search needs
 
-cast-t13 : tie.Need-cast-t13
-cast-t13 c = search needs
+array-read-t12 : tie.Need-array-read-t12
+array-read-t12 c = search needs
 
-cast-t16 : tie.Need-cast-t16
-cast-t16 c = search needs
+array-read-t15 : tie.Need-array-read-t15
+array-read-t15 c = search needs
 
-cast-t19 : tie.Need-cast-t19
-cast-t19 c = search needs
+array-read-t18 : tie.Need-array-read-t18
+array-read-t18 c = search needs
 
-cast-t22 : tie.Need-cast-t22
-cast-t22 c = search needs
+array-read-t21 : tie.Need-array-read-t21
+array-read-t21 c = search needs
 
-cast-t25 : tie.Need-cast-t25
-cast-t25 c = search needs
+array-read-t24 : tie.Need-array-read-t24
+array-read-t24 c = search needs
+
+array-read-t27 : tie.Need-array-read-t27
+array-read-t27 c = search needs
 
 returns : tie.Need-returns
 unfolding bytesOf
-returns c = search needs
+returns c = rw (c .number-bytes .ensures)
 
 pub bytes-of-spec : {M : Type 1} → statement M
 bytes-of-spec =
     tie.close
-    (tie.spec cast-t4 cast-t7 cast-t10 cast-t13 cast-t16 cast-t19 cast-t22 cast-t25 returns)
+    (tie.spec
+    number-bytes-requires
+    array-read-t6
+    array-read-t9
+    array-read-t12
+    array-read-t15
+    array-read-t18
+    array-read-t21
+    array-read-t24
+    array-read-t27
+    returns)

@@ -10,7 +10,7 @@ choose-requires : tie.Need-choose-requires
 choose-requires c κs = search needs
 
 returns : tie.Need-returns
-returns c = cc
+returns c = rw (c .choose .ensures, c .before .command-fields .ensures)
 
 pub command-fault-spec : {M : Type 1} → statement M
 command-fault-spec = tie.close (tie.spec command-fields-requires choose-requires returns)

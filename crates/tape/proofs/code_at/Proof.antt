@@ -1,6 +1,7 @@
 -- `tape::code_at` meets its contract, by what its two calls ensure. Assumes nothing.
 use borrow.Author.Needs.{needs}
-use Rattle.tape.specs.Read.{codeAt}
+use mathlib.Core.Path.{ap, _∙_}
+use Rattle.tape.specs.Read.{numberOf, codeAt}
 use Rattle.tape.proofs.code_at.Statement.{statement}
 use Rattle.tape.proofs.code_at.Tie as tie
 
@@ -12,7 +13,7 @@ number-requires c κs = search needs
 
 returns : tie.Need-returns
 unfolding codeAt
-returns c = cc
+returns c = c .number .ensures ∙ ap numberOf (c .before .read-at .ensures)
 
 pub code-at-spec : {M : Type 1} → statement M
 code-at-spec = tie.close (tie.spec read-at-requires number-requires returns)

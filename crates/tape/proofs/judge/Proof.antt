@@ -5,9 +5,8 @@ use mathlib.Core.Path.{_≡_, ap, _∙_}
 use native.Mathlib.Omega.{arith}
 use Prim.Native.Nat.{_+_}
 use Rattle.record.specs.declared.Record.{Record}
-use Rattle.record.proofs.Faults.{bytesFault}
 use Rattle.tape.specs.declared.Read.the-variants.{Found}
-use Rattle.tape.proofs.Reading.{judged-not, judged-is}
+use Rattle.tape.proofs.Reading.{number-so, judged-not, judged-is}
 use Rattle.tape.proofs.judge.Statement.{statement}
 use Rattle.tape.proofs.judge.Tie as tie
 
@@ -26,7 +25,9 @@ choose-requires c κs = search needs
 returns : tie.Need-returns
 returns c =
     let a = c .before .before .before .before .before .before .args in
-    let e : c .before .choose .result ≡ bytesFault (a .at) (a .p .now) = cc in
+    let fault = c .before .before in
+    let mark = fault .before in
+    let e = number-so (a .at) (a .p .now) (c .before .choose .ensures) (mark .is-marked .ensures) (fault .fault .ensures) (mark .before .record-of .ensures) in
     judged-not (a .at) (a .p .now) (c .before .choose .result) e (c .if1 .taken)
 
 add-t7 : tie.Need-add-t7
@@ -35,7 +36,9 @@ add-t7 c = search needs
 returns-2 : tie.Need-returns-2
 returns-2 c =
     let a = c .before .before .before .before .before .before .args in
-    let e : c .before .choose .result ≡ bytesFault (a .at) (a .p .now) = cc in
+    let fault = c .before .before in
+    let mark = fault .before in
+    let e = number-so (a .at) (a .p .now) (c .before .choose .ensures) (mark .is-marked .ensures) (fault .fault .ensures) (mark .before .record-of .ensures) in
     let z : c .before .choose .result ≡ 0 = omega arith in
     ap (λ (r : Record). Found r (a .at + 16)) (c .before .before .before .before .record-of .ensures) ∙ judged-is (a .at) (a .p .now) (c .before .choose .result) e z
 

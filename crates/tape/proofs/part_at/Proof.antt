@@ -1,8 +1,8 @@
 -- `tape::part_at` meets its contract: an answer's part is none, or the 16 bytes from the place on, which the tape has. Assumes nothing.
 use borrow.Author.Needs.{needs}
-use mathlib.Core.Path.{_≡_, refl}
+use mathlib.Core.Path.{refl, ap, _∙_}
 use native.Mathlib.Omega.{arith}
-use Rattle.tape.specs.Read.{readOf, sizeOf}
+use Rattle.tape.specs.Read.{sizeOf}
 use Rattle.tape.proofs.Reading.{part-none, part-some}
 use Rattle.tape.proofs.part_at.Statement.{statement}
 use Rattle.tape.proofs.part_at.Tie as tie
@@ -26,8 +26,7 @@ returns : tie.Need-returns
 returns c =
     let a = c .before .before .before .before .before .args in
     let s = c .before .before .size in
-    let r = c .before .before .before .read-at in
-    let e : s .result ≡ sizeOf (readOf (a .tape .now) (a .at)) = cc in
+    let e = s .ensures ∙ ap sizeOf (c .before .before .before .read-at .ensures) in
     let p = part-none (a .tape .now) (a .at) (s .result) e (c .before .if1 .taken) in
     (p .0, refl, omega (arith, p .1))
 
@@ -35,8 +34,7 @@ add-end : tie.Need-add-end
 add-end c =
     let a = c .before .before .before .before .args in
     let s = c .before .size in
-    let r = c .before .before .read-at in
-    let e : s .result ≡ sizeOf (readOf (a .tape .now) (a .at)) = cc in
+    let e = s .ensures ∙ ap sizeOf (c .before .before .read-at .ensures) in
     let h = part-some (a .tape .now) (a .at) (s .result) e (c .if1 .left) .0 in
     search needs
 
@@ -50,8 +48,7 @@ part-result-end-2 : tie.Need-part-result-end-2
 part-result-end-2 c =
     let a = c .before .before .before .before .args in
     let s = c .before .size in
-    let r = c .before .before .read-at in
-    let e : s .result ≡ sizeOf (readOf (a .tape .now) (a .at)) = cc in
+    let e = s .ensures ∙ ap sizeOf (c .before .before .read-at .ensures) in
     let h = part-some (a .tape .now) (a .at) (s .result) e (c .if1 .left) .0 in
     search needs
 
@@ -59,8 +56,7 @@ returns-2 : tie.Need-returns-2
 returns-2 c =
     let a = c .before .before .before .before .before .args in
     let s = c .before .before .size in
-    let r = c .before .before .before .read-at in
-    let e : s .result ≡ sizeOf (readOf (a .tape .now) (a .at)) = cc in
+    let e = s .ensures ∙ ap sizeOf (c .before .before .before .read-at .ensures) in
     let p = part-some (a .tape .now) (a .at) (s .result) e (c .before .if1 .left) in
     (p .1, refl, omega (arith, p .2))
 

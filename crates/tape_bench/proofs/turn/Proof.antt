@@ -6,11 +6,11 @@ use Rattle.tape_bench.proofs.turn.Tie as tie
 value-in-requires : tie.Need-value-in-requires
 value-in-requires c κs = search needs
 
-behind-requires : tie.Need-behind-requires
-behind-requires c κs = search needs
+place-requires : tie.Need-place-requires
+place-requires c κs = search needs
 
 returns : tie.Need-returns
 returns c = cc
 
 pub turn-spec : {M : Type 1} → statement M
-turn-spec = tie.close (tie.spec value-in-requires behind-requires returns)
+turn-spec = tie.close (tie.spec value-in-requires place-requires returns)

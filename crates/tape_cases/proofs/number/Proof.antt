@@ -1,5 +1,5 @@
 -- `tape_cases::number` is safe and ends: the index falls from 8. Assumes nothing.
-use Prim.Native.Nat.{_≤_, _-_}
+use Prim.Native.Nat.{_≤_}
 use borrow.Author.Needs.{needs}
 use Rattle.tape_cases.proofs.number.Statement.{statement}
 use Rattle.tape_cases.proofs.number.Tie as tie

@@ -1,5 +1,4 @@
 -- `tape_cases::tape_case` is safe and ends: the turns fall. Assumes nothing.
-use Prim.Native.Nat.{_-_}
 use borrow.Author.Needs.{needs}
 use Rattle.tape_cases.proofs.tape_case.Statement.{statement}
 use Rattle.tape_cases.proofs.tape_case.Tie as tie

@@ -1,7 +1,8 @@
 -- `decode` meets its contract: each part is read as its contract says. Assumes nothing.
 use borrow.Author.Needs.{needs}
-use mathlib.Core.Path.{_≡_}
+use mathlib.Core.Path.{refl}
 use Rattle.image.specs.Layout.{kernelOf}
+use Rattle.image.proofs.RoundTrip.{made}
 use Rattle.image.proofs.codec.decode.Statement.{statement}
 use Rattle.image.proofs.codec.decode.Tie as tie
 
@@ -37,7 +38,17 @@ get-times-requires c κs = search needs
 
 returns : tie.Need-returns
 unfolding kernelOf
-returns c = cc
+returns c =
+    let way = c .before in
+    let held = way .before in
+    let delayed = held .before in
+    let ready = delayed .before in
+    let base = ready .before in
+    let waiter = base .before in
+    let ceiling = waiter .before in
+    let clock = ceiling .before .before in
+    made (base .get32 .ensures) (ready .get322 .ensures) (delayed .get323 .ensures) (held .get324 .ensures) (way .get325 .ensures) (c .get-times .ensures) (ceiling .get8 .ensures)
+    (waiter .get82 .ensures) (clock .get-number .ensures) refl
 
 pub decode-spec : {M : Type 1} → statement M
 decode-spec =

@@ -1,16 +1,16 @@
 -- `encode` meets its contract: each part stands behind all that is written before it. Assumes nothing.
 use borrow.Author.Needs.{needs}
 use Prim.Native.Nat.{ℕ}
-use mathlib.Core.Path.{_≡_, ap, _∙_}
-use mathlib.Core.List.{List, [], _∷_, _++_}
+use mathlib.Core.Path.{ap, _∙_}
+use mathlib.Core.List.{_∷_, _++_}
 use lib.ListN.{take, replicate}
 use Rattle.image.specs.Layout.{imageOf}
 use Rattle.image.proofs.Copying.{behind}
 use Rattle.image.proofs.codec.encode.Statement.{statement}
 use Rattle.image.proofs.codec.encode.Tie as tie
 
-bytes-of-requires : tie.Need-bytes-of-requires
-bytes-of-requires c κs = search needs
+number-bytes-requires : tie.Need-number-bytes-requires
+number-bytes-requires c κs = search needs
 
 put8-requires : tie.Need-put8-requires
 put8-requires c κs = search needs
@@ -65,7 +65,7 @@ returns c =
     let ceiling = waiter .before .before .before in
     let started = ceiling .before .before .before in
     let clock = started .before .before .before in
-    let to-clock = clock .put8 .ensures .1 ∙ clock .before .bytes-of .ensures in
+    let to-clock = clock .put8 .ensures .1 ∙ clock .before .number-bytes .ensures in
     let one = ap (λ (x : ℕ). take 8 (clock .put8 .last .0) ++ (x ∷ replicate 7 0)) (started .before .flag .ensures) in
     let to-started = behind _ _ _ _ (started .put82 .ensures .1 ∙ one) to-clock in
     let to-ceiling = behind _ _ _ _ (ceiling .put83 .ensures .1) to-started in
@@ -83,7 +83,7 @@ pub encode-spec : {M : Type 1} → statement M
 encode-spec =
     tie.close
     (tie.spec
-    bytes-of-requires
+    number-bytes-requires
     put8-requires
     flag-requires
     put8-requires-2

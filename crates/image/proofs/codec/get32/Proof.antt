@@ -1,7 +1,7 @@
 -- `get32` meets its contract: the first i bytes of the table are those of the part. Assumes nothing.
 use borrow.Author.Needs.{needs}
 use native.Mathlib.Omega.{arith}
-use Prim.Native.Nat.{_-_, _≤_, _<_}
+use Prim.Native.Nat.{_-_, _≤_}
 use mathlib.Core.Path.{_≡_, sym}
 use lib.ListN.{length, take, length-set}
 use Rattle.image.specs.Layout.{part}

@@ -1,7 +1,7 @@
 -- `get_times` meets its contract: the first i times are those that the bytes from 256 on hold. Assumes nothing.
 use borrow.Author.Needs.{needs}
 use native.Mathlib.Omega.{arith}
-use Prim.Native.Nat.{_+_, _*_, _-_, _≤_, _<_}
+use Prim.Native.Nat.{_*_, _-_, _≤_}
 use mathlib.Core.Path.{_≡_, sym, _∙_}
 use lib.ListN.{length, take, drop, length-set}
 use Rattle.image.specs.Layout.{numbersOf}

@@ -1,6 +1,5 @@
 -- `is_clean` meets its contract: each part as its test says. Assumes nothing.
 use borrow.Author.Needs.{needs}
-use mathlib.Core.Path.{_≡_}
 use Rattle.image.specs.Layout.{clean}
 use Rattle.image.proofs.codec.is_clean.Statement.{statement}
 use Rattle.image.proofs.codec.is_clean.Tie as tie
@@ -19,7 +18,7 @@ is-zero-requires-3 c κs = search needs
 
 returns : tie.Need-returns
 unfolding clean
-returns c = cc
+returns c = rw (c .before .before .is-zero .ensures, c .before .is-zero2 .ensures, c .is-zero3 .ensures)
 
 pub is-clean-spec : {M : Type 1} → statement M
 is-clean-spec =

@@ -1,10 +1,10 @@
 -- `put8` meets its contract: the first i bytes of v stand behind what was written before. Assumes nothing.
 use borrow.Author.Needs.{needs}
 use native.Mathlib.Omega.{arith}
-use Prim.Native.Nat.{ℕ, _+_, _-_, _*_, _≤_, _<_}
-use mathlib.Core.Path.{_≡_, refl}
+use Prim.Native.Nat.{_+_, _-_, _≤_, _<_}
+use mathlib.Core.Path.{_≡_}
 use mathlib.Core.List.{_++_}
-use lib.ListN.{length, getD, take}
+use lib.ListN.{length, take}
 use Rattle.image.proofs.Copying.{start, grow, end}
 use Rattle.image.proofs.codec.put8.Statement.{statement}
 use Rattle.image.proofs.codec.put8.Tie as tie

@@ -1,11 +1,8 @@
 -- `put_byte` meets its contract: a byte stored at a place grows what is written up to there by one. Assumes nothing.
 use borrow.Author.Needs.{needs}
 use native.Mathlib.Omega.{arith}
-use Prim.Native.Nat.{ℕ, _+_, _-_, _*_, _≤_, _<_}
-use mathlib.Core.Path.{_≡_, refl}
-use mathlib.Core.Path.{_∙_}
 use native.Mathlib.Numerals.{add-one}
-use lib.ListN.{length, getD, length-set}
+use lib.ListN.{length-set}
 use lib.Seq.{take-suc-set}
 use Rattle.image.proofs.codec.put_byte.Statement.{statement}
 use Rattle.image.proofs.codec.put_byte.Tie as tie

@@ -1,10 +1,9 @@
 -- `put_times` meets its contract: the bytes of the first i times stand behind byte 256. Assumes nothing.
 use borrow.Author.Needs.{needs}
 use native.Mathlib.Omega.{arith}
-use Prim.Native.Nat.{_+_, _*_, _-_, _≤_}
+use Prim.Native.Nat.{ℕ, _+_, _*_, _-_, _≤_}
 use mathlib.Core.Path.{_≡_, ap, _∙_}
 use mathlib.Core.List.{List, _++_}
-use Prim.Native.Nat.{ℕ}
 use lib.ListN.{length, take}
 use Rattle.image.specs.Layout.{bytesOf}
 use Rattle.image.proofs.Numbers.{start-times, grow-times, end-times}
@@ -26,14 +25,14 @@ mul-put8 c = search needs
 add-put8 : tie.Need-add-put8 Inv-loop μ-loop
 add-put8 c = search needs
 
-mul-bytes-of : tie.Need-mul-bytes-of Inv-loop μ-loop
-mul-bytes-of c = search needs
+mul-number-bytes : tie.Need-mul-number-bytes Inv-loop μ-loop
+mul-number-bytes c = search needs
 
-array-read-bytes-of : tie.Need-array-read-bytes-of Inv-loop μ-loop
-array-read-bytes-of c = search needs
+array-read-number-bytes : tie.Need-array-read-number-bytes Inv-loop μ-loop
+array-read-number-bytes c = search needs
 
-bytes-of-requires : tie.Need-bytes-of-requires Inv-loop μ-loop
-bytes-of-requires c κs = search needs
+number-bytes-requires : tie.Need-number-bytes-requires Inv-loop μ-loop
+number-bytes-requires c κs = search needs
 
 put8-requires : tie.Need-put8-requires Inv-loop μ-loop
 put8-requires c κs = search needs
@@ -48,7 +47,7 @@ loop-again : tie.Need-loop-again Inv-loop μ-loop
 loop-again c =
     let l = c .before .before .before .before .loop in
     let a = c .before .before .before .before .before .args in
-    let more = c .put8 .ensures .1 ∙ ap (λ (x : List ℕ). take (256 + 8 * l .i) (l .s) ++ x) (c .before .bytes-of .ensures) in
+    let more = c .put8 .ensures .1 ∙ ap (λ (x : List ℕ). take (256 + 8 * l .i) (l .s) ++ x) (c .before .number-bytes .ensures) in
     (omega arith, c .put8 .ensures .0, grow-times (l .s) (c .put8 .last .0) (take 256 (a .s .now)) (a .t2) 256 (l .i) (omega arith) (l .inv .2) more)
 
 returns : tie.Need-returns Inv-loop μ-loop
@@ -66,9 +65,9 @@ put-times-spec =
     loop-holds
     mul-put8
     add-put8
-    mul-bytes-of
-    array-read-bytes-of
-    bytes-of-requires
+    mul-number-bytes
+    array-read-number-bytes
+    number-bytes-requires
     put8-requires
     add-i
     loop-less

@@ -1,12 +1,9 @@
 -- `store` meets its contract: the first i bytes are those of v. Assumes nothing.
 use borrow.Author.Needs.{needs}
 use native.Mathlib.Omega.{arith}
-use Prim.Native.Nat.{ℕ, _+_, _-_, _*_, _≤_, _<_}
+use Prim.Native.Nat.{_-_, _≤_}
 use mathlib.Core.Path.{_≡_, refl}
-use mathlib.Core.Path.{subst, sym, _∙_}
-use lib.ListN.{length, getD, take, length-set}
-use lib.Seq.{take-all}
-use native.Mathlib.Nat.{le-of-eq}
+use lib.ListN.{length, take, length-set}
 use Rattle.image.proofs.Copying.{turn, whole}
 use Rattle.image.proofs.codec.store.Statement.{statement}
 use Rattle.image.proofs.codec.store.Tie as tie

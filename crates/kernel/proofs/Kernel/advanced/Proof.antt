@@ -4,8 +4,8 @@ use borrow.Author.Needs.{needs}
 use Rattle.kernel.proofs.Kernel.advanced.Statement.{statement}
 use Rattle.kernel.proofs.Kernel.advanced.Tie as tie
 
-later-requires : tie.Need-later-requires
-later-requires c κs = search needs
+grown-requires : tie.Need-grown-requires
+grown-requires c κs = search needs
 
 element-copy-out-accepted : tie.Need-element-copy-out-accepted
 element-copy-out-accepted c = search needs
@@ -15,8 +15,8 @@ accepted-requires c κs = search needs
 
 returns : tie.Need-returns
 unfolding advancedOf
-returns c = rw (c .accepted .ensures, c .before .before .later .ensures)
+returns c = rw (c .accepted .ensures, c .before .before .grown .ensures)
 
 pub advanced-spec : {M : Type 1} → statement M
 advanced-spec =
-    tie.close (tie.spec later-requires element-copy-out-accepted accepted-requires returns)
+    tie.close (tie.spec grown-requires element-copy-out-accepted accepted-requires returns)

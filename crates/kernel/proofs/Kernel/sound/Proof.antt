@@ -1,7 +1,8 @@
 -- `Kernel::sound` is isSound: `tested` makes the test of specs/Test, and Tested shows that this is isSound, for the sizes and bounds that the
 -- types give. Assumes nothing.
 use mathlib.Core.Path.{_∙_}
-use Rattle.kernel.proofs.Tested.{Sizes, test-same}
+use Rattle.kernel.proofs.Passed.{Sizes}
+use Rattle.kernel.proofs.Tested.{test-same}
 use borrow.Author.Needs.{needs, elem-fits-field}
 use mir.Syntax.{w64}
 use Rattle.kernel.proofs.Kernel.sound.Statement.{statement}

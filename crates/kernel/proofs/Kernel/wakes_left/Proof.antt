@@ -1,5 +1,4 @@
 -- `Kernel::wakes_left` is leftOf: each return is one of the cases of Question. Assumes nothing.
-use Prim.Native.Nat.{_-_}
 use mathlib.Core.Path.{_≡_, sym, _∙_}
 use mathlib.Core.Bool.{true, false}
 use borrow.Author.Tests.{not-true, not-false}

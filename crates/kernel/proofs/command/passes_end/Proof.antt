@@ -1,6 +1,5 @@
 -- `passes_end` meets its contract: the difference does not wrap, and is below the ticks just when the sum passes the end. Assumes nothing.
 use native.Mathlib.Omega.{arith}
-use Prim.Native.Nat.{_-_}
 use Rattle.kernel.proofs.Loops.{past-end}
 use borrow.Author.Needs.{needs}
 use Rattle.kernel.proofs.command.passes_end.Statement.{statement}

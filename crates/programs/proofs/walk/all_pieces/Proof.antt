@@ -1,5 +1,4 @@
 -- `programs::walk::all_pieces` ends: turns are counted down. Assumes nothing.
-use native.Mathlib.Omega.{arith}
 use mathlib.Core.Path.{_≡_}
 use lib.ListN.{length}
 use borrow.Author.Needs.{needs}

@@ -1,6 +1,7 @@
 -- `session::draw::header` meets its contract. Assumes nothing.
 use Rattle.text.specs.Printed.{draw-header}
-use Rattle.session.proofs.Short.{put-in-front, draw-header-short}
+use Rattle.text.proofs.Bounds.{draw-header-short}
+use Rattle.session.proofs.Front.{put-in-front}
 use borrow.Author.Needs.{needs}
 use Rattle.session.proofs.draw.header.Statement.{statement}
 use Rattle.session.proofs.draw.header.Tie as tie

@@ -1,5 +1,4 @@
 -- `session::tell::following` meets its contract. Assumes nothing.
-use Prim.Native.Nat.{_+_}
 use borrow.Author.Needs.{needs}
 use Rattle.session.proofs.Telling.{one-more, no-more}
 use Rattle.session.proofs.tell.following.Statement.{statement}

@@ -1,5 +1,4 @@
 -- `session::walk::begin` meets its contract. Assumes nothing.
-use mathlib.Core.Path.{_≡_}
 use borrow.Author.Needs.{needs}
 use Rattle.session.specs.Walk.{at-first}
 use Rattle.session.proofs.walk.begin.Statement.{statement}

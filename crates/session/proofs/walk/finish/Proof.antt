@@ -1,5 +1,4 @@
 -- `session::walk::finish` meets its contract: nothing is held, or one line. Assumes nothing.
-use Prim.Native.Nat.{_<_}
 use native.Mathlib.Omega.{arith}
 use mathlib.Core.Path.{_≡_}
 use borrow.Author.Needs.{needs}

@@ -1,7 +1,8 @@
 -- `session::walk::header` meets its contract. Assumes nothing.
 use borrow.Author.Needs.{needs}
 use Rattle.text.specs.Printed.{walk-header}
-use Rattle.session.proofs.Short.{put-in-front, header-short}
+use Rattle.text.proofs.Bounds.{walk-header-short}
+use Rattle.session.proofs.Front.{put-in-front}
 use Rattle.session.proofs.walk.header.Statement.{statement}
 use Rattle.session.proofs.walk.header.Tie as tie
 
@@ -15,7 +16,7 @@ returns : tie.Need-returns
 returns c =
     let put = c .before .before .put-walk-header in
     let out = c .before .before .before .before .before .args .out .now in
-    (put .ensures .0, put .ensures .1, put-in-front 64 walk-header out (put .last .0) (put .result) (put .ensures .0) (put .ensures .1) header-short)
+    (put .ensures .0, put .ensures .1, put-in-front 64 walk-header out (put .last .0) (put .result) (put .ensures .0) (put .ensures .1) walk-header-short)
 
 pub header-spec : {M : Type 1} → statement M
 header-spec = tie.close (tie.spec put-walk-header-requires same-length returns)

@@ -1,7 +1,6 @@
 -- `text::command::named` meets its contract: by whether the two are the same. Assumes nothing.
 use mathlib.Core.Path.{_∙_, sym}
 use borrow.Author.Needs.{needs}
-use Rattle.text.proofs.Bools.{if-so, if-not}
 use Rattle.text.proofs.command.named.Statement.{statement}
 use Rattle.text.proofs.command.named.Tie as tie
 
@@ -9,10 +8,10 @@ same-bytes-requires : tie.Need-same-bytes-requires
 same-bytes-requires c κs = search needs
 
 returns : tie.Need-returns
-returns c = if-so _ _ _ (sym (c .before .same-bytes .ensures) ∙ c .if1 .taken)
+returns c = rw (sym (c .before .same-bytes .ensures) ∙ c .if1 .taken)
 
 returns-2 : tie.Need-returns-2
-returns-2 c = if-not _ _ _ (sym (c .before .same-bytes .ensures) ∙ c .if1 .left)
+returns-2 c = rw (sym (c .before .same-bytes .ensures) ∙ c .if1 .left)
 
 pub named-spec : {M : Type 1} → statement M
 named-spec = tie.close (tie.spec same-bytes-requires returns returns-2)

@@ -1,5 +1,4 @@
 -- `text::first::first_line` meets its contract: 14, the judgement, or the line, each by the tests on the way. Assumes nothing.
-use Prim.Native.Nat.{_-_}
 use mathlib.Core.Bool.{_&&_}
 use mathlib.Core.Path.{_∙_}
 use borrow.Author.Tests.{eq-eqb, ne-eqb, not-true, not-false}

@@ -1,5 +1,4 @@
 -- `text::first::is_fair` meets its contract. Assumes nothing.
-use Prim.Native.Nat.{_-_}
 use mathlib.Core.Path.{refl}
 use borrow.Author.Needs.{needs}
 use Rattle.text.specs.FirstLine.{fair}

@@ -1,5 +1,4 @@
 -- `text::first::next_text` meets its contract: too little is left, the text stands there, or another. Assumes nothing.
-use Prim.Native.Nat.{_-_}
 use native.Mathlib.Omega.{arith}
 use borrow.Author.Needs.{needs}
 use Rattle.text.proofs.Opening.{text-short, text-here, text-other}

@@ -1,5 +1,4 @@
 -- `text::first::read_settings` meets its contract: part behind part. Assumes nothing.
-use Prim.Native.Nat.{_-_}
 use native.Mathlib.Omega.{arith}
 use borrow.Author.Needs.{needs}
 use lib.ListN.{drop}

@@ -1,5 +1,4 @@
 -- `text::first::refuse` meets its contract. Assumes nothing.
-use Prim.Native.Nat.{_-_}
 use mathlib.Core.Path.{refl}
 use Rattle.text.specs.FirstLine.{refused-with}
 use Rattle.text.proofs.first.refuse.Statement.{statement}

@@ -1,5 +1,4 @@
 -- `text::first::seed_text` meets its contract. Assumes nothing.
-use Prim.Native.Nat.{_-_}
 use native.Mathlib.Omega.{arith}
 use borrow.Author.Needs.{needs}
 use Rattle.text.proofs.Opening.{seed-read, reading-bound}

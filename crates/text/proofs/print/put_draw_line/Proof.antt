@@ -6,7 +6,8 @@ use borrow.Author.Tests.{leb-true, leb-false}
 use borrow.Author.Needs.{needs}
 use lib.ListN.{length}
 use Rattle.text.specs.Printed.{draw-line}
-use Rattle.text.proofs.Stores.{refused, written}
+use Rattle.decimal.proofs.Stores.{refused}
+use Rattle.text.proofs.Stores.{written}
 use Rattle.text.proofs.print.put_draw_line.Statement.{statement}
 use Rattle.text.proofs.print.put_draw_line.Tie as tie
 

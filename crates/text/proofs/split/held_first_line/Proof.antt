@@ -1,5 +1,4 @@
 -- `text::split::held_first_line` meets its contract: no more than the bytes that there are. Assumes nothing.
-use Prim.Native.Nat.{_-_}
 use native.Mathlib.Omega.{arith}
 use mathlib.Core.Path.{_≡_, sym, _∙_, ap}
 use borrow.Author.Needs.{needs}

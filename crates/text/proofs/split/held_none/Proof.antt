@@ -1,5 +1,4 @@
 -- `text::split::held_none` meets its contract. Assumes nothing.
-use Prim.Native.Nat.{_-_}
 use mathlib.Core.Path.{refl}
 use Rattle.text.specs.Lines.{nothing-held}
 use Rattle.text.proofs.split.held_none.Statement.{statement}

@@ -1,5 +1,4 @@
 -- `text::split::line_end` meets its contract. Assumes nothing.
-use Prim.Native.Nat.{_-_}
 use borrow.Author.Needs.{needs}
 use Rattle.text.specs.Lines.{end-from}
 use Rattle.text.proofs.Holding.{no-end}

@@ -1,5 +1,4 @@
 -- `text::split::next_line` meets its contract: the place is past the end, a line end comes, or none does. Assumes nothing.
-use Prim.Native.Nat.{_-_}
 use borrow.Author.Needs.{needs}
 use Rattle.text.proofs.Holding.{past-end, cut-whole, cut-part}
 use Rattle.text.proofs.split.next_line.Statement.{statement}

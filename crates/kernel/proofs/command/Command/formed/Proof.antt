@@ -1,9 +1,9 @@
 -- `Command::formed` meets its contract: each op's row of the operands computes; what is no op is not formed. Assumes nothing.
-use mathlib.Core.Bool.{_&&_}
+use mathlib.Core.Bool.{_&&_, and-true}
 use lib.Dec.{eqb}
 use Rattle.kernel.specs.Public.{said}
-use Rattle.kernel.proofs.Loops.{and-yes, not-formed, unknown-op}
-use Prim.Native.Nat.{_-_, _^_}
+use Rattle.kernel.proofs.Loops.{not-formed, unknown-op}
+use Prim.Native.Nat.{_^_}
 use mathlib.Core.Path.{sym}
 use native.Mathlib.Omega.{arith}
 use borrow.Author.Tests.{lt-ltb}
@@ -20,13 +20,13 @@ returns-3 : tie.Need-returns-3
 returns-3 c = rw (c .match .keys3)
 
 returns-4 : tie.Need-returns-4
-returns-4 c = rw (c .match .keys4, lt-ltb (c .before .before .before .before .args .self .value) (2 ^ 64) (omega arith)) (sym (and-yes (eqb (c .before .before .before .before .args .self .a) 0 && eqb (c .before .before .before .before .args .self .b) 0)))
+returns-4 c = rw (c .match .keys4, lt-ltb (c .before .before .before .before .args .self .value) (2 ^ 64) (omega arith)) (sym (and-true (eqb (c .before .before .before .before .args .self .a) 0 && eqb (c .before .before .before .before .args .self .b) 0)))
 
 returns-5 : tie.Need-returns-5
 returns-5 c = rw (c .match .keys5)
 
 returns-6 : tie.Need-returns-6
-returns-6 c = rw (c .match .keys6) (sym (and-yes (eqb (c .before .before .before .before .args .self .a) 0 && eqb (c .before .before .before .before .args .self .b) 0)))
+returns-6 c = rw (c .match .keys6) (sym (and-true (eqb (c .before .before .before .before .args .self .a) 0 && eqb (c .before .before .before .before .args .self .b) 0)))
 
 returns-7 : tie.Need-returns-7
 returns-7 c = rw (c .match .keys7)

@@ -1,0 +1,5 @@
+pub mod Stores
+pub mod Turns
+pub mod BothWays
+pub mod Theorems
+pub mod Single

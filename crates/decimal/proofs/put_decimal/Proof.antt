@@ -1,0 +1,46 @@
+-- `decimal::put_decimal` meets its contract: refused where there is no room, else the digits by the width of the decimal. Assumes nothing.
+use native.Mathlib.Omega.{arith}
+use mathlib.Core.Path.{_∙_}
+use borrow.Author.Needs.{needs}
+use Rattle.decimal.specs.Decimal.{decimal}
+use Rattle.decimal.proofs.Stores.{put, refused}
+use Rattle.decimal.proofs.Turns.{decimal-stored, decimal-length}
+use Rattle.decimal.proofs.put_decimal.Statement.{statement}
+use Rattle.decimal.proofs.put_decimal.Tie as tie
+
+returns : tie.Need-returns
+returns c = let a = c .before .before .args in refused 20 (a .out .now) (a .at) (decimal (a .n)) (omega arith)
+
+sub-if2 : tie.Need-sub-if2
+sub-if2 c = search needs
+
+returns-2 : tie.Need-returns-2
+returns-2 c = let a = c .before .before .before .args in refused 20 (a .out .now) (a .at) (decimal (a .n)) (omega arith)
+
+width-requires : tie.Need-width-requires
+width-requires c κs = search needs
+
+put-digits-requires : tie.Need-put-digits-requires
+put-digits-requires c κs = search needs
+
+add-result : tie.Need-add-result
+add-result c = search needs
+
+same-length : tie.Need-same-length
+same-length c = search needs
+
+returns-3 : tie.Need-returns-3
+returns-3 c = let a = c .before .before .before .before .before .before .before .before .args in let e = c .before .before .before .before .width .ensures .0 in let p = put 20 (a .out .now) (a .at) (decimal (a .n)) (omega arith) in (decimal-length (a .out .now) (a .at) (c .before .before .before .before .width .result) (a .n) e ∙ p .0, c .before .before .put-digits .ensures ∙ decimal-stored (a .out .now) (a .at) (c .before .before .before .before .width .result) (a .n) e ∙ p .1)
+
+pub put-decimal-spec : {M : Type 1} → statement M
+put-decimal-spec =
+    tie.close
+    (tie.spec
+    returns
+    sub-if2
+    returns-2
+    width-requires
+    put-digits-requires
+    add-result
+    same-length
+    returns-3)

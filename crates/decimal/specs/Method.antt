@@ -1,0 +1,28 @@
+-- How decimals are read and printed: named by contracts of private functions alone, so that a method can change behind them.
+use Prim.Native.Nat.{ℕ, zero, suc, _+_, _/_, _%_, _^_}
+use mathlib.Core.Bool.{true, false, cond, _&&_}
+use mathlib.Core.List.{List, [], _∷_, _++_}
+use lib.Dec.{ltb}
+use Rattle.rules.specs.Line.{every}
+use Rattle.decimal.specs.declared.Reading.{Reading}
+use Rattle.decimal.specs.Decimal.{digit, value-from}
+
+-- what digits stand for, behind others that stand for n, if that fits 64 bits; a needless zero is not looked at
+unfoldable pub digits-from : ℕ → List ℕ → Reading
+digits-from n w =
+    cond (every digit w && ltb (value-from n w) (2 ^ 64))
+    (record { fine = true; value = value-from n w })
+    (record { fine = false; value = 0 })
+
+-- how many digits n has, if it has at most `most`; and how many it has before the last
+unfoldable pub width-in : ℕ → ℕ → ℕ
+width-in zero n = 0
+width-in (suc most) n = suc (cond (ltb n 10) 0 (width-in most (n / 10)))
+
+unfoldable pub wider : ℕ → ℕ → ℕ
+wider most n = cond (ltb n 10) 0 (width-in most (n / 10))
+
+-- the last k digits of n
+unfoldable pub last-digits : ℕ → ℕ → List ℕ
+last-digits zero n = []
+last-digits (suc k) n = last-digits k (n / 10) ++ ((48 + n % 10) ∷ [])
