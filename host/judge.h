@@ -1,6 +1,7 @@
 /*
- * A second reading of the image and of document 01's step and draw, written from the paper and docs/IMAGE.md alone, for hostile.c to hold the library
- * to. It shares no code, no table and no representation with the library: a machine here is tasks that say where they stand, and two lines.
+ * A second reading of the image and of document 01's step and draw, written from the paper and docs/IMAGE.md alone, for hostile.c and hostile_tapes.c to
+ * hold the libraries to. It shares no code, no table and no representation with them: a machine here is tasks that say where they stand, and two
+ * lines. What only one of the two uses is inline, so that the other compiles without a warning.
  */
 #ifndef JUDGE_H
 #define JUDGE_H
@@ -75,7 +76,7 @@ static int read_line(struct machine *m, const uint8_t *p, enum place place, int 
 }
 
 /* 1 if the bytes are the image of a sound state, which is then in *m. */
-static int read_image(struct machine *m, const uint8_t *s, size_t length)
+static inline int read_image(struct machine *m, const uint8_t *s, size_t length)
 {
     memset(m, 0, sizeof *m);
     if (length != 512 || s[8] > 1)
@@ -137,7 +138,7 @@ static int read_image(struct machine *m, const uint8_t *s, size_t length)
     return 1;
 }
 
-static void write_image(const struct machine *m, uint8_t *s)
+static inline void write_image(const struct machine *m, uint8_t *s)
 {
     memset(s, 0, 512);
     put_number(s, m->clock);
@@ -312,7 +313,7 @@ static struct reply step(struct machine *m, uint64_t op, uint64_t a, uint64_t b,
 }
 
 /* "Wakes left": the code, and the count in `running`. */
-static struct reply wakes_left(const struct machine *m, uint64_t task)
+static inline struct reply wakes_left(const struct machine *m, uint64_t task)
 {
     struct reply r = {0, 0, 0};
     if (!ranged(task, 1, 31))
@@ -360,7 +361,7 @@ static int good_profile(uint64_t span, const uint32_t *weights, size_t count)
 }
 
 /* A draw over a sound machine, as a lottery: each legal kind has as many tickets as it weighs, in op order, and the first draw takes one. */
-static struct draft drawn(const struct machine *m, uint32_t seed, uint64_t span, const uint32_t *weights, size_t count)
+static inline struct draft drawn(const struct machine *m, uint32_t seed, uint64_t span, const uint32_t *weights, size_t count)
 {
     struct draft r = {0, 0, 0, 0, 0, seed};
     r.code = seed == 0 ? 17 : !good_profile(span, weights, count) ? 18 : !m->started ? 2 : 0;

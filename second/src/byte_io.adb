@@ -7,12 +7,12 @@ package body Byte_IO is
 
    Piece : constant := 65_536;
 
-   procedure Fail (Message : String) is
+   procedure Fail (Message : String; Status : Positive) is
       Text    : constant String := Message & Line_End;
       Ignored : Integer;
    begin
       Ignored := Write (Standerr, Text'Address, Text'Length);
-      OS_Exit (2);
+      OS_Exit (Status);
    end Fail;
 
    -----------
@@ -24,7 +24,6 @@ package body Byte_IO is
    Input_Next : Positive := 1;     --  the next one to hand out
    Input_Over : Boolean := False;
 
-   --  The next byte; Found is False at the end of the input.
    procedure Next_Byte (Byte : out Character; Found : out Boolean) is
    begin
       if Input_Next > Input_Last and then not Input_Over then
@@ -35,7 +34,7 @@ package body Byte_IO is
          begin
             if Got < 0 then
                Flush;
-               Fail ("cannot read standard input: give a file or a pipe");
+               Fail ("cannot read standard input: give a file or a pipe", 1);
             end if;
             Input_Last := Got;
             Input_Over := Got = 0;
@@ -82,7 +81,7 @@ package body Byte_IO is
               Write (Standout, Output (First)'Address, Left);
          begin
             if Done <= 0 then
-               Fail ("cannot write standard output: is the disk full?");
+               Fail ("cannot write standard output: is the disk full?", 1);
             end if;
             First := First + Done;
          end;

@@ -1,9 +1,12 @@
---  Standard input cut into lines, and standard output in large pieces.  Only
---  byte 10 ends a line; 0, 13 and 255 are bytes as any other.
+--  Standard input as bytes or cut into lines, and standard output in large
+--  pieces.  Only byte 10 ends a line; 0, 13 and 255 are bytes as any other.
 
 with Machine; use Machine;
 
 package Byte_IO is
+
+   --  The next byte; Found is False at the end of the input.
+   procedure Next_Byte (Byte : out Character; Found : out Boolean);
 
    --  Of a line no more is kept than is needed to know that it is too long
    --  for either program: a Length of Most_Kept stands for that or more.
@@ -31,7 +34,8 @@ package Byte_IO is
    --  Writes what is still kept back.  To be called at the end.
    procedure Flush;
 
-   --  Says what is wrong on standard error and ends the program.
-   procedure Fail (Message : String);
+   --  Says what is wrong on standard error and ends the program: with status
+   --  1 where a file cannot be read or written, with 2 for wrong arguments.
+   procedure Fail (Message : String; Status : Positive);
 
 end Byte_IO;

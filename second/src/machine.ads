@@ -20,8 +20,8 @@ package Machine is
    Idle        : constant Task_Id := 0;
    Null_Object : constant Object_Id := 0;
 
-   --  "Numbers of refusal and their order".  1, 15 and 16 do not occur in
-   --  the two programs.
+   --  "Numbers of refusal and their order".  1 and 16 do not occur in the
+   --  programs.
    subtype Code is Natural range 0 .. 18;
    Accepted     : constant Code := 0;
    Early        : constant Code := 2;
@@ -37,6 +37,7 @@ package Machine is
    Queue        : constant Code := 12;
    Clock_Full   : constant Code := 13;
    Bad_Line     : constant Code := 14;
+   Bad_Record   : constant Code := 15;
    Bad_Seed     : constant Code := 17;
    Bad_Profile  : constant Code := 18;
 

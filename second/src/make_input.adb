@@ -21,7 +21,8 @@ begin
      or else not Decimals.Is_Decimal (Argument (2), 1_000_000_000)
    then
       Byte_IO.Fail ("usage: make_input walk|draw NUMBER,"
-                    & " the number 0 to 1000000000, without leading zeros");
+                    & " the number 0 to 1000000000, without leading zeros",
+                    Status => 2);
    end if;
    Fresh_Numbers.Start (Argument (1) (1), Decimals.Value (Argument (2)));
    if Argument (1) = "walk" then

@@ -1,5 +1,5 @@
--- What the code does to the tables, op by op: the contracts of the functions inside this crate.
--- (proofs/ ties each to the rules. A reader of the public contracts needs none of this.)
+-- What the code does to the tables, op by op: the contracts of the functions inside this crate, and of the public untested (steppedOf).
+-- (proofs/ ties each to the rules: of a sound state steppedOf is stepOf, Whole: step-meets. The other public contracts need none of this.)
 use Prim.Native.Nat.{ℕ, _+_, _^_}
 use mathlib.Core.Bool.{Bool, true, cond, not, _&&_, _||_}
 use mathlib.Core.List.{List, [], _∷_}
@@ -169,7 +169,7 @@ refusal-on k c = refusalOf c (caseOf k c)
 abbrev pub refused : ℕ → ℕ → Answer
 refused n x = record { code = n; running = record { 0 = x }; released = record { 0 = 0 } }
 
--- the step of tables that passed the test
+-- the step without the test (of a sound state it is stepOf: proofs/Whole, step-meets)
 unfoldable pub steppedOf : Kernel → Command → Stepped
 steppedOf k c = cond (eqb (refusal-on k c) 0) (carriedOf k c) (record { next = k; answer = refused (refusal-on k c) (cond (k .started) (first k) 0) })
 

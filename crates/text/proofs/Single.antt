@@ -2,8 +2,10 @@
 -- that it was lent is one contents. Rules out: a contract that leaves an answer open. Which answer it is, the definitions of specs/ say.
 -- (The laws, and why the contracts are written out once more: crate decimal, proofs/Single.) Assumes nothing.
 use Prim.Native.Nat.{ℕ}
+use mathlib.Core.Bool.{Bool}
 use mathlib.Core.Path.{_≡_}
 use mathlib.Core.List.{List}
+use lib.ListN.{length}
 use Rattle.decimal.proofs.Single.{one, one-each, Puts}
 use Rattle.text.specs.declared.command.Spoken.{Spoken}
 use Rattle.text.specs.declared.first.SeedText.{SeedText}
@@ -12,7 +14,7 @@ use Rattle.text.specs.declared.print.Row.{Row}
 use Rattle.text.specs.declared.split.Held.{Held}
 use Rattle.text.specs.declared.split.Cut.{Cut}
 use Rattle.text.specs.declared.split.Told.{Told}
-use Rattle.text.specs.Commands.{command-of}
+use Rattle.text.specs.Commands.{command-of, uses-a, uses-b, uses-value}
 use Rattle.text.specs.FirstLine.{seed-of, first-line-of}
 use Rattle.text.specs.Lines.{nothing-held, held-bytes, hold-more, end-from, cut-of, told-of}
 use Rattle.text.specs.Printed.{walk-header, draw-header, walk-line, draw-line, header-room, walk-room, draw-room}
@@ -27,6 +29,15 @@ command-single line r s = one
 
 pub first-line-single : (line : List ℕ) (r s : FirstLine) → r ≡ first-line-of line → s ≡ first-line-of line → r ≡ s
 first-line-single line r s = one
+
+pub takes-a-single : (op : ℕ) (r s : Bool) → r ≡ uses-a op → s ≡ uses-a op → r ≡ s
+takes-a-single op r s = one
+
+pub takes-b-single : (op : ℕ) (r s : Bool) → r ≡ uses-b op → s ≡ uses-b op → r ≡ s
+takes-b-single op r s = one
+
+pub takes-value-single : (op : ℕ) (r s : Bool) → r ≡ uses-value op → s ≡ uses-value op → r ≡ s
+takes-value-single op r s = one
 
 -- ---- what splits
 
@@ -52,6 +63,9 @@ pub next-command-single : (h : Held) (l : List ℕ) (at : ℕ) (r s : Told) → 
 next-command-single h l at r s = one
 
 -- ---- what prints
+
+pub put-text-single : (out : List ℕ) (at r s : ℕ) (text a b : List ℕ) → Puts (length text) out at text r a → Puts (length text) out at text s b → (r ≡ s) × (a ≡ b)
+put-text-single out at r s text a b = one-each
 
 pub put-walk-header-single : (out : List ℕ) (at r s : ℕ) (a b : List ℕ) → Puts header-room out at walk-header r a → Puts header-room out at walk-header s b → (r ≡ s) × (a ≡ b)
 put-walk-header-single out at r s a b = one-each

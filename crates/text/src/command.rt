@@ -53,7 +53,7 @@ fn op_of(word: &[u8]) -> u8
 }
 
 // Whether a line of the op has the operand.
-fn takes_a(op: u8) -> bool
+pub fn takes_a(op: u8) -> bool
     ensures { λ r. ⌜ r ≡ uses-a op ⌝ }
 {
     (op == 1)
@@ -61,13 +61,13 @@ fn takes_a(op: u8) -> bool
             | ((op == 7) | ((op == 8) | ((op == 9) | ((op == 10) | ((op == 11) | false))))))
 }
 
-fn takes_b(op: u8) -> bool
+pub fn takes_b(op: u8) -> bool
     ensures { λ r. ⌜ r ≡ uses-b op ⌝ }
 {
     (op == 1) | ((op == 2) | ((op == 8) | ((op == 10) | false)))
 }
 
-fn takes_value(op: u8) -> bool
+pub fn takes_value(op: u8) -> bool
     ensures { λ r. ⌜ r ≡ uses-value op ⌝ }
 {
     (op == 4) | ((op == 6) | false)

@@ -61,6 +61,16 @@ fn has_room(len: usize, at: usize, need: usize) -> bool
     at <= len - need
 }
 
+// A text put at a place where it has room, and the next place; else nothing, and the same place.
+pub fn put_text(out: &mut [u8], at: usize, text: &[u8]) -> usize
+    ensures { λ r. ⌜ (r ≡ place-after (length (now (text .entry))) (now (out .entry)) at (now (text .entry))) × (now (out .exit) ≡ contents-after (length (now (text .entry))) (now (out .entry)) at (now (text .entry))) ⌝ }
+{
+    if has_room(out.len(), at, text.len()) {
+        return put_bytes(out, at, text);
+    }
+    at
+}
+
 pub fn put_walk_header(out: &mut [u8], at: usize) -> usize
     ensures { λ r. ⌜ (r ≡ place-after header-room (now (out .entry)) at walk-header) × (now (out .exit) ≡ contents-after header-room (now (out .entry)) at walk-header) ⌝ }
 {

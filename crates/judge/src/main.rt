@@ -1,0 +1,4 @@
+// The program judge, over standard input.
+fn main() {
+    programs::judge::run(libc::STDIN_FILENO);
+}

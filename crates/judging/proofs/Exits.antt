@@ -1,0 +1,57 @@
+-- The ways out of the code that judges a record, and of the end of a tape: each is the definition's case of the tests that led there. Assumes nothing.
+use Prim.Native.Nat.{ℕ, _-_, _/_}
+use mathlib.Core.Path.{_≡_}
+use mathlib.Core.Logic.{_≢_}
+use mathlib.Core.Bool.{Bool, true, false, not, _||_}
+use mathlib.Core.List.{List}
+use borrow.Author.Tests.{eq-eqb, ne-eqb}
+use lib.Dec.{eqb, ltb}
+use Rattle.kernel.specs.declared.Stepped.{Stepped}
+use Rattle.kernel.specs.Step.{steppedOf}
+use Rattle.record.specs.declared.Record.{Record}
+use Rattle.record.specs.Form.{recordOf}
+use Rattle.record.proofs.Faults.{bytesFault}
+use Rattle.tape.proofs.Reading.{judged-not, judged-is}
+use Rattle.judging.specs.declared.Verdict.{Verdict}
+use Rattle.judging.specs.declared.Verdict.the-variants.{Agrees}
+use Rattle.judging.specs.declared.Stage.{Stage}
+use Rattle.judging.specs.declared.Stage.the-variants.{Going, Over}
+use Rattle.judging.specs.declared.Run.{Run}
+use Rattle.judging.specs.Verdict.{command-of, answer-on, shown, same, difference}
+use Rattle.judging.specs.Pieces.{beyond, refused-at, over, headed, compared, answered, taken, onward, at-end}
+
+-- ---- a command record
+module _ (x : Run) (r : Record) (s : Stepped) (e : s ≡ steppedOf (x .kernel) (command-of r)) (t : Bool) (f : t ≡ same (shown (answer-on r)) (s .answer)) where
+  pub differing : t ≡ false → over x (difference (x .place / 16) r (s .answer)) ≡ answered x r
+  unfolding answered compared
+  differing n = rw (← e, ← f, n)
+
+  pub agreeing : (at : ℕ) → at ≡ beyond (x .place) → t ≡ true → record { kernel = s .next; place = at; seed = x .seed; stage = Going } ≡ answered x r
+  unfolding answered compared
+  agreeing at q y = rw (← e, ← f, y, q)
+
+-- ---- 16 bytes
+pub onward-over : (x : Run) (p : List ℕ) (v : Verdict) → x .stage ≡ Over v → x ≡ onward x p
+unfolding onward
+onward-over x p v e = rw e
+
+module _ (x : Run) (p : List ℕ) (g : x .stage ≡ Going) (c : ℕ) (e : c ≡ bytesFault (x .place) p) where
+  pub onward-refused : c ≢ 0 → over x (refused-at c (x .place)) ≡ onward x p
+  unfolding onward taken
+  onward-refused n = rw (g, ← judged-not (x .place) p c e n)
+
+  pub onward-header : c ≡ 0 → x .place ≡ 0 → headed x (recordOf p .value) ≡ onward x p
+  unfolding onward taken
+  onward-header z o = rw (g, ← judged-is (x .place) p c e z, eq-eqb (x .place) 0 o)
+
+  pub onward-command : c ≡ 0 → x .place ≢ 0 → answered x (recordOf p) ≡ onward x p
+  unfolding onward taken
+  onward-command z o = rw (g, ← judged-is (x .place) p c e z, ne-eqb (x .place) 0 o)
+
+-- ---- the end of a tape
+module _ (stage : Stage) (place count : ℕ) (g : stage ≡ Going) where
+  pub end-refused : (ltb place 16 || not (eqb count 0)) ≡ true → refused-at 15 place ≡ at-end stage place count
+  end-refused t = rw (g, t)
+
+  pub end-agrees : (ltb place 16 || not (eqb count 0)) ≡ false → Agrees (place / 16 - 1) ≡ at-end stage place count
+  end-agrees t = rw (g, t)

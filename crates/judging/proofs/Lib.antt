@@ -1,0 +1,7 @@
+pub mod Words
+pub mod Theorems
+pub mod Worked
+pub mod Hearing
+pub mod Exits
+pub mod Whole
+pub mod Single

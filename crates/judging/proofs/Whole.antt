@@ -1,0 +1,246 @@
+-- From the fresh machine on, what a judge says is Verdict's judgement of the tape: of a whole tape, and of one in pieces, cut anywhere. The idea: the
+-- tables are always those of a sound machine, so the step without the test is the rules', record by record. Assumes nothing.
+use Prim.Native.Nat.{ℕ, zero, suc, _+_, _-_, _*_, _/_, _%_, _≤_, _<_, min}
+use native.Mathlib.Nat.{min-eq-right}
+use native.Mathlib.Omega.{arith}
+use mathlib.Core.Path.{_≡_, refl, sym, ap, _∙_}
+use mathlib.Core.Bool.{Bool, true, false, cond, _||_, true≢false}
+use mathlib.Core.List.{List, [], _∷_, _++_, append-assoc}
+use borrow.Author.Tests.{eq-eqb, ne-eqb, lt-ltb, le-ltb, ltb-true, ltb-false, eqb-true, eqb-false}
+use lib.Dec.{eqb, ltb}
+use lib.ListN.{length, take, drop, length-append, length-drop, take-append-drop}
+use lib.Seq.{length-take-le, drop-at}
+use Rattle.rules.specs.Machine.{Machine, Command, fresh}
+use Rattle.rules.specs.Run.{next, answer}
+use Rattle.rules.proofs.Sounds.{Sound}
+use Rattle.rules.proofs.Step.{next-sound, fresh-sound}
+use Rattle.kernel.specs.View.{encode, pad}
+use Rattle.kernel.proofs.Whole.{stepped-tie}
+use Rattle.record.specs.declared.Record.{Record}
+use Rattle.record.specs.Form.{recordOf}
+use Rattle.tape.specs.declared.Read.{Read}
+use Rattle.tape.specs.declared.Read.the-variants.{Found, End, Refused}
+use Rattle.tape.specs.Read.{readOf, judged, endOf, placeOf, nextAt}
+use Rattle.tape.specs.Run.{answers}
+use Rattle.tape.proofs.Reading.{Stands, stands, found, end, no-record, no-seed, sixteen, read-end, read-short, read-judged}
+use Rattle.judging.specs.declared.Verdict.{Verdict}
+use Rattle.judging.specs.declared.Verdict.the-variants.{Agrees, Refused as Malformed}
+use Rattle.judging.specs.declared.Judgement.{Judgement}
+use Rattle.judging.specs.declared.Stage.the-variants.{Going, Over}
+use Rattle.judging.specs.declared.Stage.{Stage}
+use Rattle.judging.specs.declared.Run.{Run}
+use Rattle.judging.specs.declared.Judge.{Judge}
+use Rattle.judging.specs.Verdict.{command-of, answer-on, shown, same, difference, judged-from, verdict-of}
+use Rattle.judging.specs.Pieces.{to-come, beyond, refused-at, over, headed, compared, answered, taken, onward, Heard, byte, bytes, heard, kept, at-first, fed, ended, judged-in, joined}
+use Rattle.judging.proofs.Hearing.{bytes-append, bytes-short, bytes-begun, few-begun, take-pad}
+use Rattle.judging.proofs.Exits.{onward-over}
+
+-- ---- behind a verdict nothing changes
+
+over-byte : (h : Heard) (b : ℕ) (v : Verdict) → h .run .stage ≡ Over v → byte h b .run ≡ h .run
+unfolding byte
+over-byte h b v e = go (eqb (length (h .begun)) 15)
+  where
+    go : (t : Bool) → cond {A = Heard} t (record { run = onward (h .run) (h .begun ++ (b ∷ [])); begun = [] }) (record { run = h .run; begun = h .begun ++ (b ∷ []) }) .run ≡ h .run
+    go true = sym (onward-over (h .run) (h .begun ++ (b ∷ [])) v e)
+    go false = refl
+
+over-stays : (p : List ℕ) (h : Heard) (v : Verdict) → h .run .stage ≡ Over v → bytes h p .run ≡ h .run
+unfolding bytes
+over-stays [] h v e = refl
+over-stays (b ∷ p) h v e = over-stays p (byte h b) v (ap (λ (x : Run). x .stage) (over-byte h b v e) ∙ e) ∙ over-byte h b v e
+
+said-over : (h : Heard) (v : Verdict) → h .run .stage ≡ Over v → ended (kept h) ≡ record { seed = h .run .seed; verdict = v }
+unfolding ended
+said-over h v e = rw e
+
+over-said : (x : Run) (p : List ℕ) (v : Verdict) → x .stage ≡ Over v → ended (kept (bytes (record { run = x; begun = [] }) p)) ≡ record { seed = x .seed; verdict = v }
+over-said x p v e =
+    let q = over-stays p (record { run = x; begun = [] }) v e in
+    said-over (bytes (record { run = x; begun = [] }) p) v (ap (λ (y : Run). y .stage) q ∙ e) ∙ ap (λ (y : Run). let z : Judgement = record { seed = y .seed; verdict = v } in z) q
+
+-- Behind a verdict more pieces change nothing: who stops reading there has the tape's judgement.
+pub verdict-stays : (j : Judge) (p : List ℕ) → to-come (j .run .stage) ≡ false → ended (fed j p) ≡ ended j
+unfolding fed ended
+verdict-stays j p n = go (j .run .stage) refl n
+  where
+    go : (t : Stage) → j .run .stage ≡ t → to-come t ≡ false → ended (kept (bytes (heard j) p)) ≡ ended j
+    go Going e f = absurd (true≢false f)
+    go (Over v) e f =
+        let q = over-stays p (heard j) v e in
+        said-over (bytes (heard j) p) v (ap (λ (y : Run). y .stage) q ∙ e) ∙ ap (λ (y : Run). let z : Judgement = record { seed = y .seed; verdict = v } in z) q ∙ rw e
+
+-- ---- record by record
+
+-- the tables of a machine, before record n
+abbrev going : Machine → ℕ → ℕ → Run
+going m n seed = record { kernel = encode m; place = 16 * n; seed = seed; stage = Going }
+
+sixteenth : (n : ℕ) → 16 * n / 16 ≡ n
+sixteenth n = omega arith
+
+or-true : (x : Bool) → x || true ≡ true
+or-true true = refl
+or-true false = refl
+
+-- what is said of bytes behind the records that were judged, by either
+abbrev said : Machine → ℕ → ℕ → List ℕ → Judgement
+said m n seed back = ended (kept (bytes (record { run = going m n seed; begun = [] }) back))
+
+abbrev Tied : ℕ → Type 0
+Tied f =
+    (m : Machine) → Sound m → (n seed : ℕ) (front back : List ℕ) → length front ≡ 16 * n → length front + length back < 18446744073709551616 → length back < f
+    → said m n seed back ≡ judged-from m n seed (answers f (front ++ back) (16 * n))
+
+module _ (m : Machine) (n seed : ℕ) where
+  refused-said : (c : ℕ) (q : List ℕ) → ended (kept (bytes (record { run = over (going m n seed) (refused-at c (16 * n)); begun = [] }) q)) ≡ record { seed = seed; verdict = Malformed (record { code = c; number = n; place = 16 * n }) }
+  refused-said c q = over-said (over (going m n seed) (refused-at c (16 * n))) q (refused-at c (16 * n)) refl ∙ rw (sixteenth n)
+
+  cut-said : (back : List ℕ) → 1 ≤ length back → length back ≤ 15 → said m n seed back ≡ record { seed = seed; verdict = Malformed (record { code = 15; number = n; place = 16 * n }) }
+  unfolding ended
+  cut-said back o k =
+      let z : eqb (length back) 0 ≡ false = ne-eqb (length back) 0 (λ e. omega arith) in
+      rw (bytes-short (going m n seed) [] back (omega arith), z, or-true (ltb (16 * n) 16), sixteenth n)
+
+-- no byte is left
+end-said : (m : Machine) (n seed : ℕ) → said m n seed [] ≡ record { seed = seed; verdict = cond (eqb n 0) (Malformed (record { code = 15; number = n; place = 16 * n })) (Agrees (n - 1)) }
+unfolding ended bytes
+end-said m zero seed = refl
+end-said m (suc n) seed = let o : ltb (16 * suc n) 16 ≡ false = le-ltb (16 * suc n) 16 (omega arith) in rw (o, sixteenth (suc n), ne-eqb (suc n) 0 (λ e. omega arith))
+
+-- a command record: the step on the tables is the rules'
+answered-is : (m : Machine) (s : Sound m) (n seed : ℕ) (r : Record) → 16 * n < 18446744073709551600
+    → answered (going m n seed) r
+    ≡ cond (same (shown (answer-on r)) (shown (answer m (command-of r)))) (going (next m (command-of r)) (suc n) seed) (over (going m n seed) (difference n r (shown (answer m (command-of r)))))
+unfolding answered compared
+answered-is m s n seed r o =
+    let b : beyond (16 * n) ≡ 16 * suc n = rw (lt-ltb (16 * n) 18446744073709551600 o) (omega arith) in
+    rw (stepped-tie m s (command-of r), b, sixteenth n)
+
+end-read : (m : Machine) (n seed : ℕ) (t : Bool) (l : List Read)
+    → judged-from m n seed (cond t (Refused 15) End ∷ l) ≡ record { seed = seed; verdict = cond t (Malformed (record { code = 15; number = n; place = 16 * n })) (Agrees (n - 1)) }
+unfolding judged-from
+end-read m n seed true l = refl
+end-read m n seed false l = refl
+
+same-zero : (x n : ℕ) → x ≡ 16 * n → eqb x 0 ≡ eqb n 0
+same-zero x zero e = eq-eqb x 0 e
+same-zero x (suc n) e = ne-eqb x 0 (λ z. omega arith) ∙ sym (ne-eqb (suc n) 0 (λ z. omega arith))
+
+no-byte : (l : List ℕ) → length l ≡ 0 → l ≡ []
+no-byte [] e = refl
+no-byte (x ∷ l) e = absurd (omega arith)
+
+module _ (f : ℕ) (ih : Tied f) (m : Machine) (snd : Sound m) (n seed : ℕ) (front back : List ℕ) (e : length front ≡ 16 * n) (small : length front + length back < 18446744073709551616) (o : length back < suc f) where
+  long : length (front ++ back) ≡ 16 * n + length back
+  long = length-append front back ∙ omega arith
+
+  straight : 16 * n % 16 ≡ 0
+  straight = omega arith
+
+  -- no byte is left
+  none : length back ≡ 0 → said m n seed back ≡ judged-from m n seed (answers (suc f) (front ++ back) (16 * n))
+  unfolding endOf
+  none z =
+      let l : length (front ++ back) ≡ 16 * n = long ∙ omega arith in
+      rw (← read-end (front ++ back) (16 * n) straight (omega arith) (sym l), same-zero (length (front ++ back)) n l, end-read m n seed (eqb n 0) (answers f (front ++ back) (nextAt (front ++ back) (16 * n))))
+      (ap (said m n seed) (no-byte back z) ∙ end-said m n seed)
+
+  -- a record that is not whole
+  cut : 1 ≤ length back → length back ≤ 15 → said m n seed back ≡ judged-from m n seed (answers (suc f) (front ++ back) (16 * n))
+  unfolding judged-from
+  cut k l = rw (← read-short (front ++ back) (16 * n) straight (rw long (omega arith)) (λ q. omega (arith, long)) (rw long (omega arith))) (cut-said m n seed back k l)
+
+  -- a whole one, and what comes behind it
+  module _ (k : 16 ≤ length back) where
+    bound : 16 * n < 18446744073709551600
+    bound = omega arith
+
+    on : (m′ : Machine) → Sound m′ → (v : ℕ) → said m′ (suc n) v (drop 16 back) ≡ judged-from m′ (suc n) v (answers f (front ++ back) (16 * n + 16))
+    on m′ s′ v =
+        let at : 16 * n + 16 ≡ 16 * suc n = omega arith in
+        let again : front ++ back ≡ (front ++ take 16 back) ++ drop 16 back = ap (λ (l : List ℕ). front ++ l) (sym (take-append-drop 16 back)) ∙ sym (append-assoc front (take 16 back) (drop 16 back)) in
+        let t : length (take 16 back) ≡ 16 = length-take-le 16 back k in
+        let d : length (drop 16 back) ≡ length back - 16 = length-drop 16 back in
+        let l : length (front ++ take 16 back) ≡ 16 * suc n = length-append front (take 16 back) ∙ omega arith in
+        rw (at, again) (ih m′ s′ (suc n) v (front ++ take 16 back) (drop 16 back) l (omega arith) (omega arith))
+
+    command-said : (r : Record) (a : Command) (t : Bool) (d : Verdict)
+        → ended (kept (bytes (record { run = cond t (going (next m a) (suc n) seed) (over (going m n seed) d); begun = [] }) (drop 16 back)))
+        ≡ cond t (judged-from (next m a) (suc n) seed (answers f (front ++ back) (16 * n + 16))) (record { seed = seed; verdict = d })
+    command-said r a true d = on (next m a) (next-sound m snd a) seed
+    command-said r a false d = over-said (over (going m n seed) d) (drop 16 back) d refl
+
+    found-said : (r : Record)
+        → ended (kept (bytes (record { run = taken (going m n seed) (Found r (16 * n + 16)); begun = [] }) (drop 16 back)))
+        ≡ judged-from m n seed (Found r (16 * n + 16) ∷ answers f (front ++ back) (16 * n + 16))
+    unfolding taken judged-from
+    found-said r = rw (same-zero (16 * n) n refl) (go (eqb n 0) refl)
+      where
+        go : (t : Bool) → eqb n 0 ≡ t
+            → ended (kept (bytes (record { run = cond t (headed (going m n seed) (r .value)) (answered (going m n seed) r); begun = [] }) (drop 16 back)))
+            ≡ cond t (judged-from m 1 (r .value) (answers f (front ++ back) (16 * n + 16)))
+            (cond (same (shown (answer-on r)) (shown (answer m (command-of r)))) (judged-from (next m (command-of r)) (suc n) seed (answers f (front ++ back) (16 * n + 16)))
+            (record { seed = seed; verdict = difference n r (shown (answer m (command-of r))) }))
+        go true z =
+            let b : beyond (16 * n) ≡ 16 * suc n = rw (lt-ltb (16 * n) 18446744073709551600 bound) (omega arith) in
+            rw b (on m snd (r .value) ∙ ap (λ (i : ℕ). judged-from m i (r .value) (answers f (front ++ back) (16 * n + 16))) (ap suc (eqb-true n 0 z)))
+        go false z =
+            rw (answered-is m snd n seed r bound)
+            (command-said r (command-of r) (same (shown (answer-on r)) (shown (answer m (command-of r)))) (difference n r (shown (answer m (command-of r)))))
+
+    turned : {v : Read} → Stands (front ++ back) (16 * n) v
+        → ended (kept (bytes (record { run = taken (going m n seed) v; begun = [] }) (drop 16 back))) ≡ judged-from m n seed (v ∷ answers f (front ++ back) (placeOf (16 * n) v))
+    unfolding taken judged-from
+    turned (found w l z) = found-said (recordOf (take 16 (drop (16 * n) (front ++ back))))
+    turned (end w l z) = absurd (omega (arith, long))
+    turned no-record = refused-said m n seed 15 (drop 16 back)
+    turned (no-seed z l) = refused-said m n seed 17 (drop 16 back)
+
+    onward-is : (p : List ℕ) → onward (going m n seed) p ≡ taken (going m n seed) (judged (16 * n) p)
+    unfolding onward
+    onward-is p = refl
+
+    whole : said m n seed back ≡ judged-from m n seed (answers (suc f) (front ++ back) (16 * n))
+    unfolding nextAt
+    whole =
+        let here : take 16 (drop (16 * n) (front ++ back)) ≡ take 16 back = ap (λ (l : List ℕ). take 16 l) (drop-at front back (16 * n) e) in
+        let reads : judged (16 * n) (take 16 back) ≡ readOf (front ++ back) (16 * n) =
+        ap (judged (16 * n)) (sym (sixteen (front ++ back) (16 * n) ∙ here))
+        ∙ read-judged (front ++ back) (16 * n) straight (rw long (omega arith)) (λ q. omega (arith, long)) (rw long (omega arith)) in
+        rw (bytes-begun (going m n seed) [] back (omega arith) (omega arith), onward-is (take 16 back), reads) (turned (stands (front ++ back) (16 * n)))
+
+  by-size : said m n seed back ≡ judged-from m n seed (answers (suc f) (front ++ back) (16 * n))
+  by-size = go (ltb (length back) 16) refl (eqb (length back) 0) refl
+    where
+      go : (b : Bool) → ltb (length back) 16 ≡ b → (z : Bool) → eqb (length back) 0 ≡ z → said m n seed back ≡ judged-from m n seed (answers (suc f) (front ++ back) (16 * n))
+      go false b z q = whole (ltb-false (length back) 16 b)
+      go true b true q = none (eqb-true (length back) 0 q)
+      go true b false q = let h : length back ≡ 0 → ⊥ = eqb-false (length back) 0 q in let l : length back < 16 = ltb-true (length back) 16 b in cut (omega arith) (omega arith)
+
+tied : (f : ℕ) → Tied f
+tied zero = λ m s n seed front back e small o. absurd (omega arith)
+tied (suc f) = λ m s n seed front back e small o. by-size f (tied f) m s n seed front back e small o
+
+-- A whole tape: what a judge says that is fed all of it at once.
+pub whole-tape : (s : List ℕ) → length s < 18446744073709551616 → ended (fed at-first s) ≡ verdict-of s
+unfolding fed at-first verdict-of
+whole-tape s o = tied (suc (length s)) fresh fresh-sound 0 0 [] s refl (omega arith) (omega arith)
+
+-- ---- in pieces
+
+same-heard : (h : Heard) → length (h .begun) ≤ 15 → heard (kept h) ≡ h
+same-heard h o =
+    let e : take (min 15 (length (h .begun))) (pad 16 (h .begun)) ≡ h .begun = rw (min-eq-right o) (take-pad 16 (length (h .begun)) (h .begun) refl (omega arith)) in
+    ap (λ (l : List ℕ). let z : Heard = record { run = h .run; begun = l } in z) e
+
+pieces-joined : (ps : List (List ℕ)) (h : Heard) → length (h .begun) ≤ 15 → judged-in (kept h) ps ≡ ended (kept (bytes h (joined ps)))
+unfolding judged-in fed bytes
+pieces-joined [] h o = refl
+pieces-joined (p ∷ ps) h o = rw (same-heard h o, bytes-append h p (joined ps)) (pieces-joined ps (bytes h p) (few-begun h p o))
+
+-- Whatever the pieces in which a tape comes, of any number and length, the judgement is that of the whole tape.
+-- (It rules out a judge that splits a record at a piece's end, drops or repeats a byte, or counts a record twice. 2^64 bytes are more than a place can be.)
+pub pieces-whole : (ps : List (List ℕ)) → length (joined ps) < 18446744073709551616 → judged-in at-first ps ≡ verdict-of (joined ps)
+unfolding at-first fed
+pieces-whole ps o = pieces-joined ps (heard at-first) (omega arith) ∙ whole-tape (joined ps) o

@@ -1,0 +1,68 @@
+-- The words in which the theorems on a judgement are stated, beside those of specs/.
+use Prim.Native.Nat.{ℕ, suc, _*_, _<_}
+use mathlib.Core.Path.{_≡_}
+use mathlib.Core.Logic.{_≢_}
+use mathlib.Core.Bool.{true}
+use mathlib.Core.List.{List, [], _∷_, _++_, map}
+use lib.ListN.{length}
+use Rattle.rules.specs.Machine.{Machine, fresh}
+use Rattle.rules.specs.Run.{answer, run, answers}
+use Rattle.rules.proofs.Words.{All}
+use Rattle.record.specs.declared.Record.{Record}
+use Rattle.record.specs.Form.{bytesOf, headerOf, isSeed, commandFields}
+use Rattle.tape.specs.declared.Read.the-variants.{Refused}
+use Rattle.tape.specs.Read.{readOf}
+use Rattle.tape.specs.Run.{tapeOf}
+use Rattle.judging.specs.declared.Difference.{Difference}
+use Rattle.judging.specs.declared.Refusal.{Refusal}
+use Rattle.judging.specs.declared.Verdict.{Verdict}
+use Rattle.judging.specs.declared.Verdict.the-variants.{Agrees, Differs, Refused as Malformed}
+use Rattle.judging.specs.Verdict.{command-of, command-shown, answer-on, shown, number-of}
+
+-- a command record with a value of 64 bits
+abbrev pub CommandRecord : Record → Type 0
+CommandRecord r = (commandFields r ≡ true) × (r .value < 18446744073709551616)
+
+-- the machine behind the records' commands, from the fresh one
+abbrev pub behind : List Record → Machine
+behind rs = run fresh (map command-of rs)
+
+-- A tape begins with the header of a seed and some command records, whose answers are the rules' along the run of their commands from the fresh machine.
+pub record Begins (s : List ℕ) (seed : ℕ) (rs : List Record) (rest : List ℕ) : Type 0 where
+  pub seeded : isSeed seed ≡ true
+  pub commands : All CommandRecord rs
+  pub bytes : s ≡ tapeOf (headerOf seed ∷ rs) ++ rest
+  pub agree : map answer-on rs ≡ answers fresh (map command-of rs)
+
+-- Every record agrees: the tape is the header and k such records, and nothing more.
+pub record AllAgree (s : List ℕ) (seed k : ℕ) : Type 0 where
+  pub records : List Record
+  pub begins : Begins s seed records []
+  pub count : k ≡ length records
+
+-- The first that differs: all before it agree, it is a command record, and its answer is another than the rules'.
+pub record FirstDiffers (s : List ℕ) (seed : ℕ) (d : Difference) : Type 0 where
+  pub records : List Record
+  pub r : Record
+  pub rest : List ℕ
+  pub begins : Begins s seed records (bytesOf r ++ rest)
+  pub command : CommandRecord r
+  pub differs : answer-on r ≢ answer (behind records) (command-of r)
+  pub told : d ≡ record { number = suc (length records); command = command-shown r; tape = shown (answer-on r); rules = shown (answer (behind records) (command-of r)) }
+
+-- The first that is no record: all before it agree, and the reader answers 15 or 17 at its place.
+pub data FirstRefused (s : List ℕ) : ℕ → Refusal → Type 0 where
+  no-header : (c : ℕ) → readOf s 0 ≡ Refused c → FirstRefused s 0 (record { code = c; number = 0; place = 0 })
+  no-command : (c seed : ℕ) (records : List Record) (rest : List ℕ) → Begins s seed records rest → readOf s (16 * suc (length records)) ≡ Refused c
+      → FirstRefused s seed (record { code = c; number = suc (length records); place = 16 * suc (length records) })
+
+-- What a verdict says of a tape, with the seed that is shown.
+abbrev pub Says : List ℕ → ℕ → Verdict → Type 0
+Says s seed (Agrees k) = AllAgree s seed k
+Says s seed (Differs d) = FirstDiffers s seed d
+Says s seed (Malformed e) = FirstRefused s seed e
+
+-- A refusal's number: 15; or 17, and then the record is the header.
+pub data RefusedWith (e : Refusal) : Type 0 where
+  fifteen : number-of (Malformed e) ≡ 15 → RefusedWith e
+  seventeen : number-of (Malformed e) ≡ 17 → e .number ≡ 0 → RefusedWith e

@@ -1,0 +1,65 @@
+-- The judgement of a tape: its records are read one by one, and each command record's code, running and released are held against the rules',
+-- along the run of its commands from the fresh machine.
+use Prim.Native.Nat.{ℕ, suc, _-_, _*_}
+use mathlib.Core.Bool.{Bool, cond, _&&_}
+use mathlib.Core.List.{List, [], _∷_}
+use lib.Dec.{eqb}
+use lib.ListN.{length}
+use Rattle.rules.specs.Machine.{Machine, Command, fresh}
+use Rattle.rules.specs.Run.{next, answer}
+use Rattle.rules.specs.Run as R
+use Rattle.kernel.specs.declared.command.Command as given
+use Rattle.kernel.specs.declared.command.Answer.{Answer}
+use Rattle.record.specs.declared.Record.{Record}
+use Rattle.tape.specs.declared.Read.{Read}
+use Rattle.tape.specs.declared.Read.the-variants.{Found, End, Refused}
+use Rattle.tape.specs.Run.{answers}
+use Rattle.judging.specs.declared.Verdict.{Verdict}
+use Rattle.judging.specs.declared.Verdict.the-variants.{Agrees, Differs, Refused as Malformed}
+use Rattle.judging.specs.declared.Judgement.{Judgement}
+
+-- the command of a record, as the rules have it
+abbrev pub command-of : Record → Command
+command-of r = record { op = r .op; a = r .a; b = r .b; value = r .value }
+
+-- and as a judgement shows it
+abbrev pub command-shown : Record → given.Command
+command-shown r = record { op = r .op; a = r .a; b = r .b; value = r .value }
+
+-- the answer on the tape
+abbrev pub answer-on : Record → R.Answer
+answer-on r = record { code = r .code; running = r .running; released = r .released }
+
+-- an answer as a judgement shows it
+abbrev pub shown : R.Answer → Answer
+shown a = record { code = a .code; running = record { 0 = a .running }; released = record { 0 = a .released } }
+
+-- two answers are the same: code, running and released
+abbrev pub same : Answer → Answer → Bool
+same x y = eqb (x .code) (y .code) && eqb (x .running .0) (y .running .0) && eqb (x .released .0) (y .released .0)
+
+-- record n, with the rules' answer to its command
+abbrev pub difference : ℕ → Record → Answer → Verdict
+difference n r a = Differs (record { number = n; command = command-shown r; tape = shown (answer-on r); rules = a })
+
+-- document 01's number for a verdict: a refusal's own, else 0. (The paper has none for a difference; the call from C has its own, 255.)
+abbrev pub number-of : Verdict → ℕ
+number-of (Agrees k) = 0
+number-of (Differs d) = 0
+number-of (Malformed e) = e .code
+
+-- What a reader answers from record n on, m being the machine before it: a refusal is reported with the record's number and place; at the end all
+-- records agreed, the header not counted; the header is record 0, and its seed is shown and not used; a command record agrees with the rules, which
+-- then give the next machine, or it is the first that differs.
+unfoldable pub judged-from : Machine → ℕ → ℕ → List Read → Judgement
+judged-from m n seed [] = record { seed = seed; verdict = Agrees (n - 1) }
+judged-from m n seed (Refused c ∷ l) = record { seed = seed; verdict = Malformed (record { code = c; number = n; place = 16 * n }) }
+judged-from m n seed (End ∷ l) = record { seed = seed; verdict = Agrees (n - 1) }
+judged-from m n seed (Found r at ∷ l) =
+    cond (eqb n 0) (judged-from m 1 (r .value) l)
+    (cond (same (shown (answer-on r)) (shown (answer m (command-of r)))) (judged-from (next m (command-of r)) (suc n) seed l)
+    (record { seed = seed; verdict = difference n r (shown (answer m (command-of r))) }))
+
+-- A whole tape, from the fresh machine. One answer more than bytes is asked for, so the end or a refusal is among them, and [] is never reached.
+unfoldable pub verdict-of : List ℕ → Judgement
+verdict-of s = judged-from fresh 0 0 (answers (suc (length s)) s 0)

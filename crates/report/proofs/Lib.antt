@@ -1,0 +1,4 @@
+pub mod Puts
+pub mod Bounds
+pub mod Single
+pub mod Examples

@@ -1,0 +1,56 @@
+-- `report::put_line` meets its contract: one text behind another. Assumes nothing.
+use borrow.Author.Needs.{needs}
+use Rattle.report.proofs.Puts.{then}
+use Rattle.text.specs.Commands.{line-of}
+use Rattle.report.proofs.put_line.Statement.{statement}
+use Rattle.report.proofs.put_line.Tie as tie
+
+put-word-requires : tie.Need-put-word-requires
+put-word-requires c κs = search needs
+
+takes-a-requires : tie.Need-takes-a-requires
+takes-a-requires c κs = search needs
+
+cast-put-operand : tie.Need-cast-put-operand
+cast-put-operand c = search needs
+
+put-operand-requires : tie.Need-put-operand-requires
+put-operand-requires c κs = search needs
+
+takes-b-requires : tie.Need-takes-b-requires
+takes-b-requires c κs = search needs
+
+cast-put-operand-2 : tie.Need-cast-put-operand-2
+cast-put-operand-2 c = search needs
+
+put-operand-requires-2 : tie.Need-put-operand-requires-2
+put-operand-requires-2 c κs = search needs
+
+takes-value-requires : tie.Need-takes-value-requires
+takes-value-requires c κs = search needs
+
+put-operand-requires-3 : tie.Need-put-operand-requires-3
+put-operand-requires-3 c κs = search needs
+
+same-length : tie.Need-same-length
+same-length c = search needs
+
+returns : tie.Need-returns
+unfolding line-of
+returns c = then (c .before .before .before .before .before .before .before .before .before .before .before .before .before .before .before .before .before .before .before .put-word .ensures) (then (rw (c .before .before .before .before .before .before .before .before .before .before .before .before .before .before .before .takes-a .ensures) at (c .before .before .before .before .before .before .before .before .before .before .before .before .before .put-operand .ensures)) (then (rw (c .before .before .before .before .before .before .before .before .before .takes-b .ensures) at (c .before .before .before .before .before .before .before .put-operand2 .ensures)) (rw (c .before .before .before .takes-value .ensures) at (c .before .before .put-operand3 .ensures))))
+
+pub put-line-spec : {M : Type 1} → statement M
+put-line-spec =
+    tie.close
+    (tie.spec
+    put-word-requires
+    takes-a-requires
+    cast-put-operand
+    put-operand-requires
+    takes-b-requires
+    cast-put-operand-2
+    put-operand-requires-2
+    takes-value-requires
+    put-operand-requires-3
+    same-length
+    returns)

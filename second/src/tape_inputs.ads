@@ -1,0 +1,34 @@
+--  Whole tapes for the judge: right ones, ones with a wrong answer, damaged
+--  ones, and both at once in either order.
+
+package Tape_Inputs is
+
+   type Kind is
+     (Right,          --  each answer is the rules'
+      Odd,            --  so too, with operands that the op has no place for
+      Spoilt,         --  right but for one answer
+      Twice,          --  right but for two answers
+      Unseen,         --  one answered as if an operand without a place were 0
+      Lost,           --  a record dropped, doubled or out of its turn
+      Header,         --  a record 0 that is no header
+      Damaged,        --  another record that is none
+      Spoilt_First,   --  a wrong answer, and damage behind it
+      Damaged_First,  --  damage, and a wrong answer behind it
+      Both,           --  damage and a wrong answer in one record
+      Cut,            --  the end cut off, at any byte
+      Appended,       --  bytes behind the end
+      Shifted,        --  a byte dropped or put in
+      Flipped,        --  one bit changed, anywhere
+      Noise,          --  no tape
+      Empty);         --  no byte
+
+   function Some_Kind return Kind;
+
+   --  How many command records: mostly few, at times thousands.
+   function Some_Length return Natural;
+
+   --  Writes a tape.  Length is the count of command records before what the
+   --  kind does to it; kinds that need a record or two have them.
+   procedure Make (What : Kind; Length : Natural);
+
+end Tape_Inputs;

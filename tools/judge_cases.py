@@ -1,0 +1,242 @@
+#!/usr/bin/env python3
+"""Makes the stored tapes of crates/judge_cases and, by the second program, what must be printed for them.
+
+    python3 tools/judge_cases.py            write crates/judge_cases/data/NN.tape and crates/judge_cases/stdout
+    python3 tools/judge_cases.py --check    compare them with what is stored; exit status 1 on a difference
+
+The tapes are those below, made by hand with their verdicts, and some of second/bin/make_tape, by their numbers; what is printed for them is what
+second/bin/judge2 prints. second/build makes these two. The tapes together must reach all that `wanted` names, else nothing is written.
+"""
+import pathlib
+import re
+import struct
+import subprocess
+import sys
+
+ROOT = pathlib.Path(__file__).resolve().parent.parent
+SECOND = ROOT / 'second' / 'bin'
+CRATE = ROOT / 'crates' / 'judge_cases'
+MARK = b'RV'
+
+# Numbers of make_tape. The first were chosen so that every refusal of every op that some tape shows is among them; the others for variety.
+MADE = (1109, 1449, 1303, 790, 450, 256, 446, 132, 319, 626, 1804, 614, 1392, 166, 1354, 714, 224, 3, 7, 22, 33, 45, 53, 61, 63, 79)
+# A tape of that many right command records, so that it is longer than what any program reads in one piece: its number, and their count.
+LONG = (49, 4200)
+
+
+# ---- Tapes made by hand
+
+def record(op, a, b, value, code, running, released):
+    return MARK + struct.pack('<6BQ', op, a, b, code, running, released, value)
+
+
+def header(seed, edition=1):
+    return MARK + struct.pack('<6BQ', 0, edition, 0, 0, 0, 0, seed)
+
+
+def changed(tape, *changes):
+    """The tape with other bytes at these places."""
+    tape = bytearray(tape)
+    for place, byte in changes:
+        tape[place] = byte
+    return bytes(tape)
+
+
+HEADER = header(1)
+# Document 01's walk, with the answers that the paper prints: op, a, b, value, code, running, released.
+WALK = [record(*fields) for fields in (
+    (1, 1, 3, 0, 0, 0, 0), (1, 2, 5, 0, 0, 0, 0), (1, 3, 3, 0, 0, 0, 0), (2, 1, 4, 0, 0, 0, 0), (3, 0, 0, 0, 0, 2, 0), (4, 0, 0, 10, 0, 1, 0),
+    (7, 1, 0, 0, 0, 1, 0), (6, 0, 0, 10, 0, 1, 0), (5, 0, 0, 0, 0, 2, 2), (7, 1, 0, 0, 10, 2, 0), (4, 0, 0, 20, 0, 1, 0), (8, 1, 1, 0, 0, 1, 0),
+    (10, 1, 0, 0, 0, 3, 0), (10, 1, 0, 0, 12, 3, 0), (7, 1, 0, 0, 0, 3, 0), (8, 1, 1, 0, 0, 3, 1))]
+DOCUMENT = HEADER + b''.join(WALK)
+
+
+def walk(first, last):
+    return b''.join(WALK[first - 1:last])
+
+
+def agrees(count, seed=1):
+    return f'seed {seed}\nagrees: {count} command records\n'
+
+
+def refused(number, record_number, seed=1):
+    return f'seed {seed if record_number else 0}\nrefused {number} at record {record_number}, byte {16 * record_number}\n'
+
+
+def differs(number, command, tape, rules):
+    said = [f'code {code}, running {running}, released {released}' for code, running, released in (tape, rules)]
+    return f'seed 1\ndiffers at record {number}, byte {16 * number}: {command}; tape: {said[0]}; rules: {said[1]}\n'
+
+
+def whole_tapes():
+    yield DOCUMENT, agrees(16)
+    for seed in (1, 2147483648, 4294967295):
+        yield header(seed), agrees(0, seed)
+    # operands that the op has no place for: 4 before Start and after, and the state goes on
+    unused = [(1, 4, 4, 9), (2, 2, 4, 2**56), (3, 0, 0, 1), (3, 1, 0, 0), (4, 1, 0, 9), (4, 0, 1, 9), (5, 0, 0, 2**32), (5, 255, 0, 0), (5, 0, 255, 0), (6, 1, 0, 0),
+              (6, 0, 1, 0), (7, 1, 1, 0), (7, 1, 0, 1), (8, 1, 1, 1), (9, 1, 1, 0), (9, 1, 0, 1), (10, 1, 0, 1), (11, 1, 1, 0), (11, 1, 0, 1)]
+    tape = HEADER + b''.join(record(*command, 4, 0, 0) for command in unused) + walk(1, 5) + b''.join(record(*command, 4, 2, 0) for command in unused) + walk(6, 16)
+    yield tape, agrees(16 + 2 * len(unused))
+
+
+def torn_tapes():
+    yield b'', refused(15, 0)
+    for length in (1, 8, 15):
+        yield HEADER[:length], refused(15, 0)
+    for left in range(1, 16):
+        yield DOCUMENT[:16 * (left + 1) + left], refused(15, left + 1)
+    yield DOCUMENT + b'\n', refused(15, 17)
+    yield DOCUMENT + bytes(16), refused(15, 17)
+    # the last byte of record 6 is lost: its delay takes half of the next mark, and is still a delay; record 7 has no mark
+    yield DOCUMENT[:111] + DOCUMENT[112:], refused(15, 7)
+
+
+def bad_headers():
+    behind = walk(1, 3)
+    for place in range(8):
+        yield changed(HEADER + behind, (place, 5)), refused(15, 0)
+    yield header(1, edition=0) + behind, refused(15, 0)
+    yield header(1, edition=2) + behind, refused(15, 0)
+    for seed in (0, 2**32, 2**32 + 1, 2**63, 2**64 - 1):
+        yield header(seed) + behind, refused(17, 0)
+    yield header(0, edition=2), refused(15, 0)                                   # 17 is of a header else right
+    yield behind, refused(15, 0)
+
+
+def bad_records():
+    yield DOCUMENT[:48] + HEADER + DOCUMENT[48:], refused(15, 3)                 # a second header
+    yield HEADER + header(0), refused(15, 1)
+    for number, place, byte in ((1, 0, 0x53), (5, 1, 0), (16, 2, 0), (6, 2, 12), (7, 2, 255), (8, 5, 14), (9, 5, 255), (10, 6, 32), (11, 7, 32)):
+        yield changed(DOCUMENT, (16 * number + place, byte)), refused(15, number)
+
+
+def wrong_answers():
+    close = 'closep 1 1 (op 8, a 1, b 1, value 0)'
+    for answer in ((1, 3, 1), (0, 1, 1), (0, 3, 0), (11, 31, 1), (13, 3, 31), (0, 1, 3), (9, 0, 0)):
+        yield DOCUMENT[:-16] + record(8, 1, 1, 0, *answer), differs(16, close, answer, (0, 3, 1))
+    yield HEADER + record(5, 0, 0, 0, 13, 31, 31) + walk(1, 4), differs(1, 'wake (op 5, a 0, b 0, value 0)', (13, 31, 31), (2, 0, 0))
+    # an operand that the op has no place for is seen in the brackets only
+    yield HEADER + walk(1, 5) + record(4, 1, 2, 7, 0, 1, 0), differs(6, 'delay 7 (op 4, a 1, b 2, value 7)', (0, 1, 0), (4, 2, 0))
+    yield HEADER + record(3, 255, 254, 2**64 - 1, 0, 0, 0), differs(1, f'start (op 3, a 255, b 254, value {2**64 - 1})', (0, 0, 0), (4, 0, 0))
+    # Queue and Clock, passed over
+    yield HEADER + walk(1, 13) + record(10, 1, 0, 0, 0, 0, 0), differs(14, 'entry 1 0 (op 10, a 1, b 0, value 0)', (0, 0, 0), (12, 3, 0))
+    yield (HEADER + walk(1, 8) + record(6, 0, 0, 2**64 - 10, 0, 1, 0),
+           differs(9, f'advance {2**64 - 10} (op 6, a 0, b 0, value {2**64 - 10})', (0, 1, 0), (13, 1, 0)))
+    # a record is lost
+    yield HEADER + walk(1, 5) + walk(7, 16), differs(6, 'open 1 (op 7, a 1, b 0, value 0)', (0, 1, 0), (10, 2, 0))
+
+
+def first_comes_first():
+    wrong, said = record(3, 0, 0, 0, 0, 1, 0), differs(5, 'start (op 3, a 0, b 0, value 0)', (0, 1, 0), (0, 2, 0))
+    bad = changed(WALK[5], (2, 12))
+    yield HEADER + walk(1, 4) + wrong + bad, said
+    yield HEADER + walk(1, 4) + wrong + WALK[5][:7], said
+    yield HEADER + walk(1, 4) + bad + wrong, refused(15, 5)
+    yield HEADER + walk(1, 4) + changed(wrong, (1, 0x57)), refused(15, 5)
+    yield HEADER + walk(1, 4) + wrong[:15], refused(15, 5)
+
+
+def by_hand():
+    for tapes in (whole_tapes, torn_tapes, bad_headers, bad_records, wrong_answers, first_comes_first):
+        yield from tapes()
+
+
+# ---- What they reach
+
+ANSWER = 'code (\\d+), running (\\d+), released (\\d+)'
+DIFFERENCE = re.compile(f'differs at record (\\d+), .* \\(op (\\d+), .*\\); tape: {ANSWER}; rules: {ANSWER}')
+
+
+def difference(verdict):
+    """The names of what a difference shows, and how many command records are right."""
+    number, op, *answers = map(int, DIFFERENCE.fullmatch(verdict).groups())
+    tape, rules = answers[:3], answers[3:]
+    parts = ' and '.join(name for name, x, y in zip(('code', 'running', 'released'), tape, rules) if x != y)
+    return {'differs in ' + parts, f'differs at op {op}', f'differs with tape code {tape[0]}', f'differs with rules code {rules[0]}'}, number - 1
+
+
+def reached(tape, printed):
+    """The names of what a tape and its verdict show."""
+    verdict = printed.decode().split('\n')[1]
+    words = verdict.replace(',', '').split()
+    if words[0] == 'agrees:':
+        names, right = {'agrees'}, int(words[1])
+    elif words[0] == 'refused':
+        names, right = {' '.join(words[:2]) + (' at record 0' if words[4] == '0' else ' behind')}, int(words[4]) - 1
+    else:
+        names, right = difference(verdict)
+    names.add(f'{len(tape) % 16} bytes over')
+    names |= {f'over {size} bytes' for size in (4096, 65536) if len(tape) > size and right * 16 > size}
+    for number in range(1, right + 1):
+        op, a, b, code, running, released, value = struct.unpack('<6BQ', tape[16 * number + 2:16 * number + 16])
+        names |= {f'op {op} code {code}', f'running {running}'} | ({f'op {op} releases', f'released {released}'} if released else set())
+    return names
+
+
+def wanted():
+    codes = {1: (0, 3, 4, 5), 2: (0, 3, 4, 5), 3: (0, 3, 4), 4: (0, 2, 4, 7, 8), 5: (0, 2, 4), 6: (0, 2, 4, 13), 7: (0, 2, 4, 6, 7, 8, 10), 8: (0, 2, 4, 6, 7, 9),
+             9: (0, 2, 4, 6, 7, 9), 10: (0, 2, 4, 6, 7, 8, 10, 12), 11: (0, 2, 4, 6, 7, 9)}
+    names = {f'op {op} code {code}' for op in codes for code in codes[op]} | {'op 5 releases', 'op 8 releases'}
+    names |= {f'running {task}' for task in range(32)} | {f'released {task}' for task in range(1, 32)} | {f'{over} bytes over' for over in range(16)}
+    names |= {f'differs at op {op}' for op in codes} | {f'differs with tape code {code}' for code in range(14)}
+    names |= {f'differs with rules code {code}' for code in (0, 2, 3, 4, 5, 6, 7, 8, 9, 10, 12, 13)}
+    names |= {'differs in ' + parts for parts in ('code', 'running', 'released', 'code and running', 'code and released', 'running and released',
+                                                  'code and running and released')}
+    return names | {'agrees', 'refused 15 at record 0', 'refused 15 behind', 'refused 17 at record 0', 'over 4096 bytes', 'over 65536 bytes'}
+
+
+# ---- The files
+
+def run(program, *args, given=b''):
+    path = SECOND / program
+    if not path.exists():
+        sys.exit(f'judge_cases: {path.relative_to(ROOT)} is not there; run second/build first')
+    return subprocess.run([path, *args], input=given, stdout=subprocess.PIPE, check=True).stdout
+
+
+def test_by_hand():
+    """The second program too must say of each what stands here."""
+    for tape, verdict in by_hand():
+        said = run('judge2', given=tape).decode()
+        if said != verdict:
+            sys.exit(f'judge_cases: the second program says {said!r} of the tape {tape.hex()}, which is to be {verdict!r}')
+
+
+def made():
+    test_by_hand()
+    tapes = [tape for tape, _ in by_hand()] + [run('make_tape', str(number)) for number in MADE] + [run('make_tape', str(LONG[0]), 'right', str(LONG[1]))]
+    if len(tapes) > 100:
+        sys.exit(f'judge_cases: {len(tapes)} tapes, and their numbers have two digits')
+    files, printed, seen = {}, [], set()
+    for i, tape in enumerate(tapes):
+        name = f'{i:02}.tape'
+        files[CRATE / 'data' / name] = tape
+        said = run('judge2', given=tape)
+        seen |= reached(tape, said)
+        printed.append(b'file ' + name.encode() + b'\n' + said)
+    missing = wanted() - seen
+    if missing:
+        sys.exit('judge_cases: no tape reaches ' + ', '.join(sorted(missing)))
+    files[CRATE / 'stdout'] = b''.join(printed)
+    return files
+
+
+def main():
+    if sys.argv[1:] not in ([], ['--check']):
+        sys.exit(__doc__)
+    files = made()
+    said = f'judge_cases: {len(files) - 1} tapes, {sum(map(len, files.values()))} bytes in all'
+    if '--check' in sys.argv[1:]:
+        stored = set((CRATE / 'data').iterdir()) | {CRATE / 'stdout'}
+        wrong = [str(p.relative_to(ROOT)) for p in sorted(stored | set(files)) if p not in files or p not in stored or p.read_bytes() != files[p]]
+        if wrong:
+            sys.exit('judge_cases: not as the second program makes it: ' + ' '.join(wrong))
+        print(said + ', as stored')
+        return
+    (CRATE / 'data').mkdir(parents=True, exist_ok=True)
+    for path, data in files.items():
+        path.write_bytes(data)
+    print(said)
+
+
+main()
