@@ -17,7 +17,7 @@
 
 static uint8_t area[GUARD + 8 + LONGEST + GUARD], expected[sizeof area];
 static uint8_t good[512]; /* an image that is stepped all along */
-static unsigned long counts[19], drawn_ops[12], calls;
+static unsigned long counts[19], drawn_ops[12], releases[12], calls;
 
 /* ---- bytes to lend */
 
@@ -67,6 +67,8 @@ static unsigned try_step(uint8_t *image, size_t length, uint64_t op, uint64_t a,
         want = step(&m, op, a, b, value);
         if (want.code == 0)
             write_image(&m, expected + (image - area));
+        if (want.released)
+            releases[op]++;
     }
     judge("step", length, rvn_step(image, length, op, a, b, value), want);
     return want.code;
@@ -148,13 +150,14 @@ static void step_somehow(uint8_t *image, size_t length)
         op = likely_op(image);
         clock = number_at(image);
         if (image[8] && holds && one_in(2)) {
-            try_step(image, length, image[160 + runner] == 2 ? 11 : 8 + below(2), holds, 0, 0);
+            uint64_t closing = image[160 + runner] == 2 ? 11 : 8 + below(2), barrier = closing == 9 ? 0 : below(2);
+            try_step(image, length, closing, holds, barrier, 0);
             return;
         }
     }
     if (op == 1 || op == 2 || ranged(op, 7, 11) || one_in(80))
         a = operand(op == 1 ? 32 : 8);
-    if (op == 1 || op == 2 || op == 8 || op == 10 || one_in(80))
+    if (op == 1 || op == 2 || op == 8 || op == 10 || op == 11 || one_in(80))
         b = operand(op <= 2 ? 16 : 2);
     if (op == 4 || op == 6 || one_in(80))
         value = one_in(200) ? draw() : op == 4 ? clock + below(12) - (clock > 3 ? 3 : 0) : below(6);
@@ -260,7 +263,7 @@ static void call_with_null(void)
     try_draw(lend(bytes, 512), 512, 100, NULL, 0);
 }
 
-/* 1 if every code of these functions was answered and every kind drawn; else it says which was not. */
+/* 1 if every code of these functions was answered, every kind drawn, and a task released by each op that can; else it says which was not. */
 static int all_met(void)
 {
     int met = 1;
@@ -272,6 +275,11 @@ static int all_met(void)
     for (unsigned op = 4; op < 12; op++)
         if (drawn_ops[op] == 0) {
             printf("op %u was never drawn\n", op);
+            met = 0;
+        }
+    for (unsigned op = 0; op < 12; op++)
+        if ((op == RVN_WAKE || op == RVN_CLOSEP || op == RVN_DONE) && releases[op] == 0) {
+            printf("op %u released nobody\n", op);
             met = 0;
         }
     return met;

@@ -21,7 +21,7 @@
 static uint8_t area[GUARD + 8 + LONGEST + GUARD], expected[sizeof area];
 static uint8_t tape[LONGEST];
 static uint64_t lent[1 + MOST_NUMBERS + 1], left[sizeof lent / sizeof lent[0]];
-static unsigned long answers[256], agreed_codes[19], calls;
+static unsigned long answers[256], agreed_codes[19], agreed_releases[12], calls;
 
 /* ---- a second reading of a tape */
 
@@ -68,6 +68,8 @@ static struct finding finding_of(const uint8_t *bytes, size_t length)
         }
         f.numbers[2] = f.numbers[3] = 0;
         agreed_codes[rules.code]++;
+        if (rules.released)
+            agreed_releases[r[2]]++;
     }
     if (length)
         f.answer = 15;
@@ -139,7 +141,7 @@ static void put_command(const uint8_t *image, uint8_t *r)
     } else {
         r[2] = (uint8_t)(one_in(12) ? 1 + below(11) : op);
         r[3] = (uint8_t)(one_in(20) ? draw() : r[2] == 1 ? 1 + below(31) : r[2] == 2 || r[2] >= 7 ? 1 + below(7) : 0);
-        r[4] = (uint8_t)(one_in(20) ? draw() : r[2] <= 2 ? 1 + below(15) : r[2] == 8 || r[2] == 10 ? below(2) : 0);
+        r[4] = (uint8_t)(one_in(20) ? draw() : r[2] <= 2 ? 1 + below(15) : r[2] == 8 || r[2] >= 10 ? below(2) : 0);
         value = one_in(20) ? draw() : r[2] == 4 || r[2] == 6 ? below(40) : 0;
     }
     put_number(r + 8, value);
@@ -194,8 +196,8 @@ static void fill(size_t from)
         tape[i] = (uint8_t)draw();
 }
 
-/* 1 if every answer was given, and on records that agree every code that a run from the fresh machine has (not 1 and 11); else it says which
- * was not. */
+/* 1 if every answer was given, and on records that agree every code that a run from the fresh machine has (not 1 and 11) and a release by each
+ * op that can; else it says which was not. */
 static int all_met(void)
 {
     static const uint8_t all[] = {0, 1, 15, 17, 255};
@@ -208,6 +210,11 @@ static int all_met(void)
     for (unsigned code = 0; code < 14; code++)
         if (code != 1 && code != 11 && agreed_codes[code] == 0) {
             printf("no record with code %u agreed\n", code);
+            met = 0;
+        }
+    for (unsigned op = 0; op < 12; op++)
+        if ((op == RVN_WAKE || op == RVN_CLOSEP || op == RVN_DONE) && agreed_releases[op] == 0) {
+            printf("no record of op %u that releases a task agreed\n", op);
             met = 0;
         }
     return met;

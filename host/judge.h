@@ -1,5 +1,5 @@
 /*
- * A second reading of the image and of document 01's step and draw, written from the paper and docs/IMAGE.md alone, for hostile.c and hostile_tapes.c to
+ * A second reading of the image and of document 01's step and draw with request 2, written from the papers and docs/IMAGE.md alone, for hostile.c and hostile_tapes.c to
  * hold the libraries to. It shares no code, no table and no representation with them: a machine here is tasks that say where they stand, and two
  * lines. What only one of the two uses is inline, so that the other compiles without a warning.
  */
@@ -199,8 +199,8 @@ static int in_range(uint64_t op, uint64_t a, uint64_t b, uint64_t value)
     case 2: return ranged(a, 1, 7) && ranged(b, 1, 15) && value == 0;
     case 3: case 5: return a == 0 && b == 0 && value == 0;
     case 4: case 6: return a == 0 && b == 0;
-    case 7: case 9: case 11: return ranged(a, 1, 7) && b == 0 && value == 0;
-    case 8: case 10: return ranged(a, 1, 7) && b <= 1 && value == 0;
+    case 7: case 9: return ranged(a, 1, 7) && b == 0 && value == 0;
+    case 8: case 10: case 11: return ranged(a, 1, 7) && b <= 1 && value == 0;
     default: return 0;
     }
 }
@@ -296,8 +296,8 @@ static struct reply step(struct machine *m, uint64_t op, uint64_t a, uint64_t b,
         case 4: delay(m, value); break;
         case 5: r.released = (unsigned)wake(m); break;
         case 6: m->clock += value; break;
-        case 8: r.released = b ? (unsigned)serve(m, a) : 0; close_object(m); break;
-        case 9: case 11: close_object(m); break;
+        case 8: case 11: r.released = b ? (unsigned)serve(m, a) : 0; close_object(m); break;
+        case 9: close_object(m); break;
         default:
             if (op == 10 && b == 0) {
                 take_first(m->ready, &m->ready_count);
@@ -394,7 +394,7 @@ static inline struct draft drawn(const struct machine *m, uint32_t seed, uint64_
         r.a = (uint64_t)eligible[d2 % (uint32_t)objects];
     if (r.op == 8 || r.op == 9 || r.op == 11)
         r.a = (uint64_t)k->holds;
-    if (r.op == 8 || r.op == 10)
+    if (r.op == 8 || r.op == 10 || r.op == 11)
         r.b = r.op == 10 && m->waiter[r.a] ? 1 : d3 % 2;
     return r;
 }

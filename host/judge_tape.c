@@ -44,7 +44,7 @@ static void print_command(const uint8_t *record)
         printf(" %" PRIu64, value);
     else if (op != 3 && op != 5)
         printf(" %u", a);
-    if (op == 1 || op == 2 || op == 8 || op == 10)
+    if (op == 1 || op == 2 || op == 8 || op >= 10)
         printf(" %u", b);
     printf(" (op %u, a %u, b %u, value %" PRIu64 ")", op, a, b, value);
 }

@@ -41,7 +41,7 @@ extern "C" {
 #define RVN_CLOSEP 8   /* a = object, b = barrier 0 or 1: ends an open, as 9 does; with 1 a waiting task is released */
 #define RVN_CLOSEF 9   /* a = object: ends an open, as 8 with barrier 0 does */
 #define RVN_ENTRY 10   /* a = object, b = barrier: 1, the runner holds it, for an entry; 0, the runner waits on it */
-#define RVN_DONE 11    /* a = object: ends an entry */
+#define RVN_DONE 11    /* a = object, b = barrier 0 or 1: ends an entry; with 1 a waiting task is released */
 
 /* Codes: 0, or the number of the refusal. Of several that hold, the answer is the first in the order 1, 4, 2 or 3, then 5 to 13; of a
  * draw in the order 1, 17, 18, 2. */

@@ -19,7 +19,7 @@ CRATE = ROOT / 'crates' / 'judge_cases'
 MARK = b'RV'
 
 # Numbers of make_tape. The first were chosen so that every refusal of every op that some tape shows is among them; the others for variety.
-MADE = (1109, 1449, 1303, 790, 450, 256, 446, 132, 319, 626, 1804, 614, 1392, 166, 1354, 714, 224, 3, 7, 22, 33, 45, 53, 61, 63, 79)
+MADE = (327, 470, 1303, 1849, 658, 1909, 379, 319, 1658, 614, 446, 1496, 305, 3, 7, 22, 33, 45, 53, 61, 63)
 # A tape of that many right command records, so that it is longer than what any program reads in one piece: its number, and their count.
 LONG = (49, 4200)
 
@@ -74,7 +74,7 @@ def whole_tapes():
         yield header(seed), agrees(0, seed)
     # operands that the op has no place for: 4 before Start and after, and the state goes on
     unused = [(1, 4, 4, 9), (2, 2, 4, 2**56), (3, 0, 0, 1), (3, 1, 0, 0), (4, 1, 0, 9), (4, 0, 1, 9), (5, 0, 0, 2**32), (5, 255, 0, 0), (5, 0, 255, 0), (6, 1, 0, 0),
-              (6, 0, 1, 0), (7, 1, 1, 0), (7, 1, 0, 1), (8, 1, 1, 1), (9, 1, 1, 0), (9, 1, 0, 1), (10, 1, 0, 1), (11, 1, 1, 0), (11, 1, 0, 1)]
+              (6, 0, 1, 0), (7, 1, 1, 0), (7, 1, 0, 1), (8, 1, 1, 1), (9, 1, 1, 0), (9, 1, 0, 1), (10, 1, 0, 1), (11, 1, 1, 1), (11, 1, 0, 1)]
     tape = HEADER + b''.join(record(*command, 4, 0, 0) for command in unused) + walk(1, 5) + b''.join(record(*command, 4, 2, 0) for command in unused) + walk(6, 16)
     yield tape, agrees(16 + 2 * len(unused))
 
@@ -126,6 +126,17 @@ def wrong_answers():
     yield HEADER + walk(1, 5) + walk(7, 16), differs(6, 'open 1 (op 7, a 1, b 0, value 0)', (0, 1, 0), (10, 2, 0))
 
 
+def ends_of_entries():
+    """Task 1 waits on object 1, and task 3, of the same base, came through its entry."""
+    entered = HEADER + walk(1, 13) + record(10, 1, 1, 0, 0, 3, 0)
+    # barrier 0 leaves the waiter; 1 releases it, and it runs when the other sleeps
+    ends = ((11, 1, 2, 0, 4, 3, 0), (11, 1, 255, 0, 4, 3, 0), (11, 1, 0, 0, 0, 3, 0), (10, 1, 0, 0, 12, 3, 0), (10, 1, 1, 0, 0, 3, 0), (11, 1, 1, 0, 0, 3, 1),
+            (11, 1, 1, 0, 9, 3, 0), (4, 0, 0, 20, 0, 1, 0))
+    yield entered + b''.join(record(*fields) for fields in ends), agrees(14 + len(ends))
+    for barrier, tape, rules in ((1, (0, 3, 0), (0, 3, 1)), (1, (0, 1, 1), (0, 3, 1)), (0, (0, 3, 1), (0, 3, 0)), (2, (0, 3, 1), (4, 3, 0))):
+        yield entered + record(11, 1, barrier, 0, *tape), differs(15, f'done 1 {barrier} (op 11, a 1, b {barrier}, value 0)', tape, rules)
+
+
 def first_comes_first():
     wrong, said = record(3, 0, 0, 0, 0, 1, 0), differs(5, 'start (op 3, a 0, b 0, value 0)', (0, 1, 0), (0, 2, 0))
     bad = changed(WALK[5], (2, 12))
@@ -137,7 +148,7 @@ def first_comes_first():
 
 
 def by_hand():
-    for tapes in (whole_tapes, torn_tapes, bad_headers, bad_records, wrong_answers, first_comes_first):
+    for tapes in (whole_tapes, torn_tapes, bad_headers, bad_records, wrong_answers, ends_of_entries, first_comes_first):
         yield from tapes()
 
 
@@ -176,7 +187,7 @@ def reached(tape, printed):
 def wanted():
     codes = {1: (0, 3, 4, 5), 2: (0, 3, 4, 5), 3: (0, 3, 4), 4: (0, 2, 4, 7, 8), 5: (0, 2, 4), 6: (0, 2, 4, 13), 7: (0, 2, 4, 6, 7, 8, 10), 8: (0, 2, 4, 6, 7, 9),
              9: (0, 2, 4, 6, 7, 9), 10: (0, 2, 4, 6, 7, 8, 10, 12), 11: (0, 2, 4, 6, 7, 9)}
-    names = {f'op {op} code {code}' for op in codes for code in codes[op]} | {'op 5 releases', 'op 8 releases'}
+    names = {f'op {op} code {code}' for op in codes for code in codes[op]} | {f'op {op} releases' for op in (5, 8, 11)}
     names |= {f'running {task}' for task in range(32)} | {f'released {task}' for task in range(1, 32)} | {f'{over} bytes over' for over in range(16)}
     names |= {f'differs at op {op}' for op in codes} | {f'differs with tape code {code}' for code in range(14)}
     names |= {f'differs with rules code {code}' for code in (0, 2, 3, 4, 5, 6, 7, 8, 9, 10, 12, 13)}

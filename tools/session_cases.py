@@ -18,7 +18,7 @@ CLOCK = 2**64 - 1
 
 # Numbers of make_input. The first of each were chosen so that every refusal of every op that some input shows is among them; the others for variety.
 MADE = {
-    'walk': (81, 294, 113, 102, 3, 284, 392, 12, 199, 10, 117, 249, 285, 141, 104, 1, 9, 11, 13, 19, 26, 35, 43, 53),
+    'walk': (81, 337, 129, 239, 362, 1, 3, 9, 10, 11, 12, 13, 19, 26, 35, 43, 53, 102, 104, 113, 117, 141, 199, 249),
     'draw': (25, 96, 230, 242, 234, 86, 48, 200, 122, 165, 307, 2, 3, 5, 6, 7, 8, 9, 12, 21, 24, 26, 32, 40, 50, 53),
 }
 
@@ -48,6 +48,14 @@ def walks():
     # the end of the clock
     yield text('create 1 1', 'start', f'advance {CLOCK - 1}', 'advance 2', f'delay {CLOCK}', 'wake', 'advance 1', 'advance 1', 'advance 0', 'wake', f'delay {CLOCK}',
                f'advance {CLOCK}', f'delay {CLOCK + 1}')
+    # the end of an entry, while a task of higher, of equal and of lower base waits
+    ends = ('entry 1 1', 'done 1 0', 'entry 1 0', 'entry 1 1', 'done 1 2', 'done 1 1', 'done 1 1', 'entry 1 1', 'done 1 1', 'delay 9', 'delay 9', 'wake')
+    yield text('create 1 5', 'create 2 3', 'object 1 6', 'start', 'entry 1 0', *ends)
+    yield text('create 1 3', 'create 2 3', 'object 1 3', 'start', 'entry 1 0', *ends)
+    yield text('create 1 2', 'create 2 3', 'object 1 3', 'start', 'delay 1', 'entry 1 0', 'advance 1', 'wake', *ends)
+    # barriers of `done`, in and out of their range, and its lines of bad form
+    yield text('create 1 3', 'object 1 4', 'done 1', 'done 1 2', 'done 1 0', 'done 1 1', 'start', 'done 1 1', 'open 1', 'done 1 1', 'closef 1', 'entry 1 1', 'done',
+               'done 1', 'done 1 ', 'done 1 0 0', 'done 1 00', 'done 1 +1', 'done 1 256', 'done 1 255', 'done 256 1', 'done 8 1', 'done 2 1', 'done 1 1', 'done 1 1')
     # 31 tasks asleep, in ties of time and priority, and woken
     tasks = range(1, 32)
     yield text(*(f'create {i} {i % 15 + 1}' for i in tasks), 'create 32 1', 'create 31 1', 'start', *(f'delay {i % 4 + 3}' for i in tasks), 'delay 9', 'wake',
@@ -87,6 +95,8 @@ def draws():
     for lines in first_lines().values():
         for line in lines:
             yield text(line, *setup)
+    # entries and their ends alone, with barriers of both kinds while a task waits
+    yield text(first(seed='9', weights='0 1 0 0 0 0 100 100', count='30'), 'create 1 3', 'create 2 3', 'object 1 3', 'start')
     # the largest that is fair, and no start
     yield text(first(seed='4294967295', span='1000000', weights='100 100 100 100 100 100 100 100', count='100000'))
 
@@ -97,7 +107,8 @@ def reached(kind, given, printed):
     """The names of what an input and its output show."""
     rows = [line.split() for line in printed.decode().split('\n')[1:-1]]
     code = 2 if kind == 'walk' else 5
-    found = {f'op {row[1]} code {row[code]}' for row in rows} | {f'byte {b}' for b in (0, 13, 255) if bytes([b]) in given}
+    found = {f'op {row[1]} code {row[code]}' for row in rows} | {f'op {row[1]} releases' for row in rows if row[code + 2] != '0'}
+    found |= {f'byte {b}' for b in (0, 13, 255) if bytes([b]) in given}
     lines = given.split(b'\n')
     tests = {
         'no input': not given,
@@ -115,8 +126,8 @@ def wanted():
                 9: (0, 2, 4, 6, 7, 9), 10: (0, 2, 4, 6, 7, 8, 10, 12), 11: (0, 2, 4, 6, 7, 9), 0: (14,)}
     names = {f'walk: op {op} code {code}' for op, codes in refusals.items() for code in codes}
     names |= {f'draw: op {op} code 0' for op in range(1, 12)} | {f'draw: op 0 code {code}' for code in (2, 14, 17, 18)}
-    ends = ['no input', 'no last line end', 'a line over 64 bytes', '31 tasks', 'byte 0', 'byte 13', 'byte 255']
-    return names | {f'{kind}: {end}' for kind in ('walk', 'draw') for end in ends} | {'walk: a line over 4096 bytes', 'walk: the last tick'}
+    both = ['op 5 releases', 'op 8 releases', 'op 11 releases', 'no input', 'no last line end', 'a line over 64 bytes', '31 tasks', 'byte 0', 'byte 13', 'byte 255']
+    return names | {f'{kind}: {name}' for kind in ('walk', 'draw') for name in both} | {'walk: a line over 4096 bytes', 'walk: the last tick'}
 
 
 # ---- The files

@@ -23,7 +23,7 @@ static int differs(const c_record *r, answer rules)
     printf("seed %" PRIu64 "\ndiffers at record %" PRIu64 ", byte %" PRIu64 ": %s", seed, number, 16 * number, words[r->op]);
     if (r->op <= 2 || r->op >= 7)
         printf(" %u", r->a);
-    if (r->op <= 2 || r->op == 8 || r->op == 10)
+    if (r->op <= 2 || r->op == 8 || r->op >= 10)
         printf(" %u", r->b);
     if (r->op == 4 || r->op == 6)
         printf(" %" PRIu64, r->value);

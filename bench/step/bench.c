@@ -45,7 +45,7 @@ static command drawn(const kernel *k) {
     if (!r) return kind < 60 ? (command){ 6, 0, 0, 1 + draw(40) } : (command){ 5, 0, 0, 0 };
     if (kind < 20) return (command){ 5, 0, 0, 0 };
     if (kind < 40) return (command){ 6, 0, 0, 1 + draw(8) };
-    if (o && k->way[r] == 2) return (command){ 11, o, 0, 0 };
+    if (o && k->way[r] == 2) return (command){ 11, o, draw(2), 0 };
     if (o) return kind < 70 ? (command){ 8, o, draw(2), 0 } : (command){ 9, o, 0, 0 };
     if (kind < 65) return (command){ 4, 0, 0, k->clock + draw(8) * draw(60) };
     return kind < 85 ? (command){ 7, 1 + draw(7), 0, 0 } : (command){ 10, 1 + draw(7), draw(4) > 0, 0 };

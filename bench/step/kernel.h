@@ -76,8 +76,8 @@ static bool formed(command c) {
     case 2: return object && c.b >= 1 && c.b <= 15 && !c.value;
     case 3: case 5: return !c.a && !c.b && !c.value;
     case 4: case 6: return !c.a && !c.b;
-    case 7: case 9: case 11: return object && !c.b && !c.value;
-    case 8: case 10: return object && c.b <= 1 && !c.value;
+    case 7: case 9: return object && !c.b && !c.value;
+    case 8: case 10: case 11: return object && c.b <= 1 && !c.value;
     default: return false;
     }
 }
@@ -165,7 +165,7 @@ static answer untested(kernel *k, command c) {
         break;
     case 6: k->clock += c.value; break;
     case 7: k->held[r] = c.a; k->way[r] = 1; break;
-    case 8:
+    case 8: case 11:
         if (c.b && k->waiter[c.a]) {
             t = k->waiter[c.a];
             k->waiter[c.a] = 0;

@@ -16,14 +16,14 @@ static command drawn(const kernel *k) {
     if (!r) return x < 60 ? (command){ 6, 0, 0, 1 + y } : (command){ 5, 0, 0, 0 };
     if (x < 20) return (command){ 5, 0, 0, 0 };
     if (x < 40) return (command){ 6, 0, 0, 1 + z };
-    if (o && k->way[r] == 2) return (command){ 11, (uint8_t)o, 0, 0 };
+    if (o && k->way[r] == 2) return (command){ 11, (uint8_t)o, (uint8_t)(z & 1), 0 };
     if (o) return x < 70 ? (command){ 8, (uint8_t)o, (uint8_t)(z & 1), 0 } : (command){ 9, (uint8_t)o, 0, 0 };
     if (x < 65) return (command){ 4, 0, 0, k->clock + y * z };
     return x < 85 ? (command){ 7, (uint8_t)(1 + y % 7), 0, 0 } : (command){ 10, (uint8_t)(1 + y % 7), z > 1, 0 };
 }
 
 static const char *const words[12] = { "", "create", "object", "start", "delay", "wake", "advance", "open", "closep", "closef", "entry", "done" };
-static const char *const odd[8] = { "", "wake 0", "open 01", "advance 18446744073709551616", "Wake", "delay  5", "closep 1", "entry 1 1 a line that is much longer than the sixty-four bytes it may have" };
+static const char *const odd[8] = { "", "wake 0", "open 01", "advance 18446744073709551616", "Wake", "delay  5", "done 1", "entry 1 1 a line that is much longer than the sixty-four bytes it may have" };
 
 int main(int argc, char **argv) {
     unsigned long lines = argc > 1 ? strtoul(argv[1], 0, 10) : 1000000;
@@ -38,7 +38,7 @@ int main(int argc, char **argv) {
         step(&k, c);
         printf("%s", words[c.op]);
         if (c.op < 3 || c.op > 6) printf(" %u", c.a);
-        if (c.op < 3 || c.op == 8 || c.op == 10) printf(" %u", c.b);
+        if (c.op < 3 || c.op == 8 || c.op >= 10) printf(" %u", c.b);
         if (c.op == 4 || c.op == 6) printf(" %llu", (unsigned long long)c.value);
         puts("");
     }

@@ -62,7 +62,7 @@ static inline unsigned named(const char *p, size_t n) {
 }
 
 /* operands in use: a is 1, b is 2, value is 4 */
-static const uint8_t uses[12] = { 0, 3, 3, 0, 4, 0, 4, 1, 3, 1, 3, 1 };
+static const uint8_t uses[12] = { 0, 3, 3, 0, 4, 0, 4, 1, 3, 1, 3, 3 };
 
 /* Whether the line says a command. */
 static bool said(const char *p, const char *end, command *c) {

@@ -1,5 +1,5 @@
 #!/usr/bin/env python3
-"""Prints what generator_run is to print, from document 01 alone: python3 expected.py > stdout
+"""Prints what generator_run is to print, from document 01 and request 2 alone: python3 expected.py > stdout
 
 A second kernel and a second generator, with lists and sorting in place of tables."""
 
@@ -63,7 +63,7 @@ class Kernel:
                 self.waiter[a] = t
         else:
             assert self.held[t] == (a, 10 if op == 11 else 7)
-            if op == 8 and b == 1 and a in self.waiter:
+            if op in (8, 11) and b == 1 and a in self.waiter:
                 released = self.waiter.pop(a)
                 self.place(released, self.base[released])
             self.close(t)
@@ -100,7 +100,7 @@ def command(k, span, weights, d1, d2, d3):
         a = eligible[d2 % len(eligible)]
     if op in (8, 9, 11):
         a = hand
-    if op in (8, 10):
+    if op in (8, 10, 11):
         b = 1 if op == 10 and a in k.waiter else d3 % 2
     return op, a, b, value
 

@@ -63,10 +63,11 @@ package body Command_Text is
 
    function Operands_Of (Op : Known_Op) return Operands is
      (case Op is
-         when Op_Start | Op_Wake                           => None,
-         when Op_Delay | Op_Advance                        => Value_Only,
-         when Op_Open | Op_Closef | Op_Done                => A_Only,
-         when Op_Create | Op_Object | Op_Closep | Op_Entry => A_And_B);
+         when Op_Start | Op_Wake                        => None,
+         when Op_Delay | Op_Advance                     => Value_Only,
+         when Op_Open | Op_Closef                       => A_Only,
+         when Op_Create | Op_Object
+            | Op_Closep | Op_Entry | Op_Done            => A_And_B);
 
    function Operand_Count (Op : Known_Op) return Natural is
      (case Operands_Of (Op) is

@@ -107,7 +107,8 @@ package body Generator is
      (Natural (Object_Held (M, Running (M))));
 
    --  "The barrier of closep and entry is d3 mod 2, but 1 for an entry whose
-   --  object has a waiter."
+   --  object has a waiter."  Of done: "The generator sets it to d3 mod 2"
+   --  (change request 2).
    function Entry_Barrier
      (M : State; Object : Natural; D3 : Word_32) return Natural is
      (if Waiter (M, Object_Id (Object)) /= Idle then 1
@@ -128,10 +129,10 @@ package body Generator is
             C.Value := 1 + Ticks (D2 mod P.Span);
          when Op_Open =>
             C.A := Object_Drawn (M, D2);
-         when Op_Closep =>
+         when Op_Closep | Op_Done =>
             C.A := Held_By_Runner (M);
             C.B := Natural (D3 mod 2);
-         when Op_Closef | Op_Done =>
+         when Op_Closef =>
             C.A := Held_By_Runner (M);
          when Op_Entry =>
             C.A := Object_Drawn (M, D2);

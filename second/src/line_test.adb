@@ -1,8 +1,10 @@
 --  The machine keeps no line; this test does, by the letter of document 01,
 --  and compares the two orders after each of many steered commands.  It also
 --  watches what must hold on the way: Wakes left counts down with each Wake
---  and with nothing else, and no task ahead of a holder could take what it
---  holds (so that Held, 11, does not occur from the fresh machine).
+--  and with nothing else; no task ahead of a holder could take what it holds
+--  (so that Held, 11, does not occur from the fresh machine); and between a
+--  task's release and its next run one lower task runs at most, inside an
+--  object.
 
 with Ada.Command_Line;
 with Ada.Containers.Doubly_Linked_Lists;
@@ -81,7 +83,7 @@ procedure Line_Test is
             if Result.Released /= Idle then
                Place_At_Tail (After, Result.Released);
             end if;
-         when Op_Closep =>
+         when Op_Closep | Op_Done =>
             if Result.Released /= Idle then
                --  the closer still has its ceiling (READINGS 7)
                Remove (Result.Released);
@@ -89,7 +91,7 @@ procedure Line_Test is
                       Above => Before.Tasks (Result.Released).Base - 1);
             end if;
             Place_At_Head (After, Runner);
-         when Op_Closef | Op_Done =>
+         when Op_Closef =>
             Place_At_Head (After, Runner);
          when Op_Entry =>
             if C.B = 0 then
@@ -166,6 +168,65 @@ procedure Line_Test is
       end loop;
    end Check_Wakes;
 
+   --  A task released by op 5, 8 or 11, until it runs.
+   type Object_Of_Task is array (Task_Id) of Object_Id;
+   type Release is record
+      Is_Watched : Boolean := False;
+      Kept       : Object_Of_Task := (others => Null_Object);
+      --  what each task held at the release and has not closed since
+      Has_Lower  : Boolean := False;
+      Lower      : Task_Id := Idle;  --  the lower task that ran since
+   end record;
+   type Release_Set is array (Task_Id) of Release;
+
+   Releases : Release_Set;
+   Watched  : array (Op_Wake .. Op_Done) of Ticks := (others => 0);
+
+   --  After the command: what the runner closed is kept no more, and the
+   --  released task is watched.
+   procedure Follow_Releases
+     (Before, After : State; C : Command; Result : Answer)
+   is
+      New_One : Release := (Is_Watched => True, others => <>);
+   begin
+      if C.Op in Op_Closep | Op_Closef | Op_Done then
+         for R of Releases loop
+            R.Kept (Running (Before)) := Null_Object;
+         end loop;
+      end if;
+      if Result.Released /= Idle then
+         for T in Task_Id loop
+            New_One.Kept (T) := Object_Held (After, T);
+         end loop;
+         Releases (Result.Released) := New_One;
+         Watched (C.Op) := Watched (C.Op) + 1;
+      end if;
+   end Follow_Releases;
+
+   --  "if the tasks running at i and at j both have a base below T's, they
+   --  are one task L; L holds an object O in s k; and L has closed O at no
+   --  command from k+1 to i" (READINGS, Release; a release by done too, by
+   --  change request 2)
+   procedure Check_Releases (M : State) is
+      Runner : constant Task_Id := Running (M);
+   begin
+      Releases (Runner).Is_Watched := False;
+      for T in Task_Id loop
+         if Releases (T).Is_Watched
+           and then M.Tasks (Runner).Base < M.Tasks (T).Base
+         then
+            if Releases (T).Has_Lower and then Releases (T).Lower /= Runner
+            then
+               Complain ("two lower tasks ran before a released one");
+            elsif Releases (T).Kept (Runner) = Null_Object then
+               Complain ("a lower task ran outside before a released one");
+            end if;
+            Releases (T).Has_Lower := True;
+            Releases (T).Lower     := Runner;
+         end if;
+      end loop;
+   end Check_Releases;
+
    procedure Run_Command (M : in out State; C : Command) is
       Before : constant State := M;
       Result : Answer;
@@ -173,6 +234,7 @@ procedure Line_Test is
       Step (M, C, Result);
       if Result.Number = Accepted then
          Follow (Before, M, C, Result);
+         Follow_Releases (Before, M, C, Result);
       elsif M /= Before then
          Complain ("a refused step changed the state");
       end if;
@@ -182,6 +244,7 @@ procedure Line_Test is
       Compare_Lines (M);
       Check_Holders (M);
       Check_Wakes (Before, M, C, Result);
+      Check_Releases (M);
    end Run_Command;
 
    procedure Run_Script (Number : Ticks) is
@@ -192,6 +255,7 @@ procedure Line_Test is
       Likes := Some_Taste;
       Line.Clear;
       Line.Append (Idle);
+      Releases := (others => <>);
       for I in 1 .. Between (1, 31) loop
          Run_Command (M, New_Task (M, Likes));
       end loop;
@@ -211,7 +275,15 @@ begin
    for Number in Ticks range 1 .. 200 loop
       Run_Script (Number);
    end loop;
+   for Op in Op_Wake .. Op_Done loop
+      if Op in Op_Wake | Op_Closep | Op_Done and then Watched (Op) = 0 then
+         Complain ("op" & Op'Image & " released nobody");
+      end if;
+   end loop;
    Put_Line ("line_test: " & Image (Compared) & " lines compared, "
+             & Image (Watched (Op_Wake)) & " releases by wake, "
+             & Image (Watched (Op_Closep)) & " by closep and "
+             & Image (Watched (Op_Done)) & " by done watched, "
              & Image (Failures) & " failures");
    Flush;
    Ada.Command_Line.Set_Exit_Status (if Failures = 0 then 0 else 1);

@@ -103,9 +103,9 @@ package body Machine is
                C.A = 0 and C.B = 0 and C.Value = 0,
              when Op_Delay | Op_Advance =>
                C.A = 0 and C.B = 0,
-             when Op_Open | Op_Closef | Op_Done =>
+             when Op_Open | Op_Closef  =>
                Is_Object (C.A) and C.B = 0 and C.Value = 0,
-             when Op_Closep | Op_Entry =>
+             when Op_Closep | Op_Entry | Op_Done =>
                Is_Object (C.A) and Is_Barrier (C.B) and C.Value = 0,
              when others               => False));
 
@@ -273,8 +273,9 @@ package body Machine is
 
    --  Op 8: "if b is 1 and a task waits on the object, it goes to the tail
    --  of its base and is released; then the runner holds nothing and goes to
-   --  the head of its base"
-   procedure Close_Procedure
+   --  the head of its base".  Op 11 "treats a waiter as closep does" (change
+   --  request 2).
+   procedure Close_And_Serve
      (M        : in out State;
       Runner   : Task_Id;
       C        : Command;
@@ -288,7 +289,7 @@ package body Machine is
          Released := Candidate;
       end if;
       To_Head (M, Runner);
-   end Close_Procedure;
+   end Close_And_Serve;
 
    --  Op 10: "b 1: the runner holds it, for an entry, whoever waits.  b 0:
    --  the runner leaves the line and waits on the object"
@@ -323,14 +324,12 @@ package body Machine is
             M.Clock := M.Clock + C.Value;
          when Op_Open =>
             Take (M, Runner, Object_Id (C.A), By_Open);
-         when Op_Closep =>
-            Close_Procedure (M, Runner, C, Released);
+         when Op_Closep | Op_Done =>
+            Close_And_Serve (M, Runner, C, Released);
          when Op_Closef =>
             To_Head (M, Runner);
          when Op_Entry =>
             Enter (M, Runner, C);
-         when Op_Done =>  --  "as closef; a waiting task is not looked at"
-            To_Head (M, Runner);
          when others =>
             raise Program_Error;  --  Range has refused it
       end case;

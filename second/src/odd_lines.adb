@@ -144,7 +144,7 @@ package body Odd_Lines is
 
    --  Words that are nearly a command's.
    function Near_Word return String is
-     (case Below (10) is
+     (case Below (11) is
          when 0      => "stop",
          when 1      => "wak",
          when 2      => "wakes",
@@ -154,6 +154,7 @@ package body Odd_Lines is
          when 6      => "closep1 1",
          when 7      => "5",
          when 8      => "create",
+         when 9      => "done 1",
          when others => "n op code run rel clock");
 
    function Slip_Of_Blank (Good : String) return String is

@@ -191,7 +191,7 @@ package body Steering is
       Object : constant Natural := Natural (Object_Held (M, Runner));
    begin
       if M.Tasks (Runner).Way = By_Entry then
-         return (Op_Done, Object, 0, 0);
+         return (Op_Done, Object, (if Chance (70) then 1 else 0), 0);
       end if;
       return (case Below (4) is
                  when 0      => (Op_Closef, Object, 0, 0),
@@ -249,7 +249,7 @@ package body Steering is
    --  Some op on an object, 7..11, with the operands that it needs.
    function On_Object (Op : Natural; Object : Natural) return Command is
      ((Op, Object,
-       (if Op in Op_Closep | Op_Entry then Below (2) else 0), 0));
+       (if Op in Op_Closep | Op_Entry | Op_Done then Below (2) else 0), 0));
 
    function Some_Taking_Op return Natural is
      (if Chance (50) then Op_Open else Op_Entry);
@@ -296,13 +296,14 @@ package body Steering is
       Object     : constant Natural := Between (1, 7);
       Large      : constant Natural := Between (8, 255);
    begin
-      return (case Below (7) is
+      return (case Below (8) is
                  when 0      => (Op_Create, 32 * Limit, Level, 0),
                  when 1      => (Op_Create, Object, 16 * Limit, 0),
                  when 2      => (Op_Object, 8 * Limit, Level, 0),
                  when 3      => (Op_Object, Object, 16 * Limit, 0),
                  when 4      => (Closing_Op, Large, 0, 0),
                  when 5      => (Op_Entry, Object, 2 + Limit * Large, 0),
+                 when 6      => (Op_Done, Object, 2 + Limit * Large, 0),
                  when others => (Op_Closep, Object, 2 + Limit, 0));
    end Wrong_Operand;
 
@@ -406,11 +407,11 @@ package body Steering is
       B  : constant Natural := Some_Operand;
    begin
       return (case Op is
-                 when Op_Delay | Op_Advance         =>
+                 when Op_Delay | Op_Advance =>
                    (Op, 0, 0, Some_Value (M)),
-                 when Op_Start | Op_Wake            => (Op, 0, 0, 0),
-                 when Op_Open | Op_Closef | Op_Done => (Op, A, 0, 0),
-                 when others                        => (Op, A, B, 0));
+                 when Op_Start | Op_Wake    => (Op, 0, 0, 0),
+                 when Op_Open | Op_Closef   => (Op, A, 0, 0),
+                 when others                => (Op, A, B, 0));
    end Random_Command;
 
 end Steering;

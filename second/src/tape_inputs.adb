@@ -128,20 +128,20 @@ package body Tape_Inputs is
       Choice : constant Natural := Below (3);
    begin
       return (case C.Op is
-                 when Op_Start | Op_Wake                           =>
+                 when Op_Start | Op_Wake    =>
                    (case Choice is
                        when 0      => (C.Op, Small, 0, 0),
                        when 1      => (C.Op, 0, Small, 0),
                        when others => (C.Op, 0, 0, Value)),
-                 when Op_Delay | Op_Advance                        =>
+                 when Op_Delay | Op_Advance =>
                    (case Choice is
                        when 0      => (C.Op, Small, 0, C.Value),
                        when others => (C.Op, 0, Small, C.Value)),
-                 when Op_Open | Op_Closef | Op_Done                =>
+                 when Op_Open | Op_Closef   =>
                    (case Choice is
                        when 0      => (C.Op, C.A, 0, Value),
                        when others => (C.Op, C.A, Small, 0)),
-                 when others => (C.Op, C.A, C.B, Value));
+                 when others                => (C.Op, C.A, C.B, Value));
    end With_Unused;
 
    function Wild_Command return Command is

@@ -74,8 +74,10 @@ procedure Unit_Test is
          Check_Step ("closef b", M, (9, 1, 1, 0), Out_Of_Range);
          Check_Step ("closef value", M, (9, 1, 0, 1), Out_Of_Range);
          Check_Step ("entry value", M, (10, 1, 1, 1), Out_Of_Range);
-         Check_Step ("done b", M, (11, 1, 1, 0), Out_Of_Range);
+         Check_Step ("done b", M, (11, 1, 2, 0), Out_Of_Range);
+         Check_Step ("done b, high", M, (11, 1, 256, 0), Out_Of_Range);
          Check_Step ("done value", M, (11, 1, 0, 1), Out_Of_Range);
+         Check_Step ("done b and value", M, (11, 1, 1, 1), Out_Of_Range);
          if Round = 1 then
             Must (M, Op_Start, 0, 0);
          end if;

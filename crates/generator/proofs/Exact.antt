@@ -81,7 +81,7 @@ module _ (m : Machine) (s : Sound m) (on : m .started ≡ true) (span : ℕ) (fi
       takes a (both-true (within 1 7 a) (leb b 1) (both-true (within 1 7 a && leb b 1) (eqb v 0) (not-false _ (p 4)) .0) .0) (p 6) (p 10) (p 11) (p 7) (p 8)
   back (suc (suc (suc (suc (suc (suc (suc zero))))))) a b v k h f ok =
       let p = check-passed m (cmd 11 a b v) ok in
-      within-it a for-entry (both-true (within 1 7 a) (eqb b 0) (both-true (within 1 7 a && eqb b 0) (eqb v 0) (not-false _ (p 4)) .0) .0) (p 9)
+      within-it a for-entry (both-true (within 1 7 a) (leb b 1) (both-true (within 1 7 a && leb b 1) (eqb v 0) (not-false _ (p 4)) .0) .0) (p 9)
   back (suc (suc (suc (suc (suc (suc (suc (suc i)))))))) a b v k h f ok = absurd (omega arith)
 
   spanned : (i : ℕ) (k : Kind) → legal-at i k ≡ true → (i ≡ 0) ⊎ (i ≡ 2) → span-fits m span ≡ true

@@ -121,9 +121,9 @@ module _ (m : Machine) (s : Sound m) (on : m .started ≡ true) where
   unfolding refusal
   closef-accepted k = rw (k .in-range, on, k .there, k .awake, k .same, k .so)
 
-  done-accepted : Holds for-entry → refusal m (cmd 11 (hand m) 0 0) ≡ 0
+  done-accepted : (b : ℕ) → leb b 1 ≡ true → Holds for-entry → refusal m (cmd 11 (hand m) b 0) ≡ 0
   unfolding refusal
-  done-accepted k = rw (k .in-range, on, k .there, k .awake, k .same, k .so)
+  done-accepted b h k = rw (k .in-range, h, on, k .there, k .awake, k .same, k .so)
 
   -- Of the kind at index i, if it is legal: its op is i + 4, the machine accepts it, and its operands are small.
   pub record Right (i : ℕ) (c : Command) : Type 0 where
@@ -164,5 +164,5 @@ module _ (m : Machine) (s : Sound m) (on : m .started ≡ true) where
       record { op = refl; accepted = entry-accepted (pick m d2) (entry-barrier m (pick m d2) d3) t (b .0) (b .1); fits = (low (pick m d2) (t .in-range), low-bit (entry-barrier m (pick m d2) d3) (b .0), omega arith) }
   legal-right span d2 d3 h (suc (suc (suc (suc (suc (suc (suc zero))))))) k l e =
       let t = holds for-entry e in
-      record { op = refl; accepted = done-accepted t; fits = (low (hand m) (t .in-range), omega arith, omega arith) }
+      record { op = refl; accepted = done-accepted (d3 % 2) (bit d3) t; fits = (low (hand m) (t .in-range), low-bit (d3 % 2) (bit d3), omega arith) }
   legal-right span d2 d3 h (suc (suc (suc (suc (suc (suc (suc (suc i)))))))) k l e = absurd (omega arith)

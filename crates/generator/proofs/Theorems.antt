@@ -5,7 +5,7 @@ use native.Mathlib.Nat.{mod-lt, add-mod-right, mod-eq-of-lt}
 use mathlib.Core.Path.{_≡_, refl, sym, ap, _∙_}
 use mathlib.Core.Logic.{_≢_, _↔_, _⊎_}
 use mathlib.Core.Bool.{Bool, true, false, cond, not, _&&_}
-use mathlib.Core.List.{List, [], _∷_}
+use mathlib.Core.List.{List, [], _∷_, _++_}
 use lib.Dec.{eqb, leb, ltb}
 use lib.ListN.{getD, length, List·getD-eq-default}
 use borrow.Author.Tests.{eqb-true, eqb-false, leb-true, ltb-true, ltb-false, not-false}
@@ -217,3 +217,23 @@ tens = record { span = 100; weights = 10 ∷ 10 ∷ 10 ∷ 10 ∷ 10 ∷ 10 ∷ 
 pub drawn-delay : drawn (run fresh set-up) 1 tens ≡ record { code = 0; command = cmd 4 0 0 39; seed = 2647435461 }
 unfolding drawn draw-refusal chosen menu draw run next refusal carry leave release
 drawn-delay = refl
+
+-- ## The barrier of done (request 2)
+-- Inside an entry, by `weights 0 1 0 0 0 0 0 100`: done is drawn with barrier 1 where the third draw is odd (seed 8, whose first two are even), with 0
+-- where it is even (seed 9, whose first two are odd); and so where a task waits on the object.
+-- Rules out: a generator that never lets an entry's end serve the waiter, or always does; the bit of another draw; the entry's exception, 1 where a
+-- task waits, taken for done's. Leaves: how often (the weights).
+abbrev entered : Machine
+entered = run fresh (set-up ++ (cmd 4 0 0 10 ∷ cmd 10 1 1 0 ∷ []))
+
+abbrev entered-behind-a-waiter : Machine
+entered-behind-a-waiter = run fresh (set-up ++ (cmd 4 0 0 10 ∷ cmd 10 1 0 0 ∷ cmd 10 1 1 0 ∷ []))
+
+abbrev mostly-done : Profile
+mostly-done = record { span = 100; weights = 0 ∷ 1 ∷ 0 ∷ 0 ∷ 0 ∷ 0 ∷ 0 ∷ 100 ∷ [] }
+
+pub drawn-done : (drawn entered 8 mostly-done ≡ record { code = 0; command = cmd 11 1 1 0; seed = 2791531049 })
+    × (drawn entered 9 mostly-done ≡ record { code = 0; command = cmd 11 1 0 0; seed = 1001376492 })
+    × (drawn entered-behind-a-waiter 9 mostly-done ≡ record { code = 0; command = cmd 11 1 0 0; seed = 1001376492 })
+unfolding drawn draw-refusal chosen menu draw run next refusal carry leave release
+drawn-done = (refl, refl, refl)

@@ -42,7 +42,7 @@ pick m d = getD (eligibles m) (d % length (eligibles m)) 0
 abbrev pub span-fits : Machine → ℕ → Bool
 span-fits m span = ltb (m .clock + span) (2 ^ 64)
 
--- The barrier of closep and entry is d3 mod 2, but 1 for an entry whose object has a waiter.
+-- The barrier of closep and entry, and by request 2 of done, is d3 mod 2, but 1 for an entry whose object has a waiter.
 abbrev pub entry-barrier : Machine → ℕ → ℕ → ℕ
 entry-barrier m o d3 = cond (empty (getD (m .queue) o [])) (d3 % 2) 1
 
@@ -67,4 +67,4 @@ menu m span d2 d3 =
     kind (inside m for-open) 8 (hand m) (d3 % 2) 0 ∷
     kind (inside m for-open) 9 (hand m) 0 0 ∷
     kind takes 10 (pick m d2) (entry-barrier m (pick m d2) d3) 0 ∷
-    kind (inside m for-entry) 11 (hand m) 0 0 ∷ []
+    kind (inside m for-entry) 11 (hand m) (d3 % 2) 0 ∷ []

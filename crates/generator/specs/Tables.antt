@@ -55,7 +55,7 @@ abbrev pub firstsOf : Sight → List ℕ
 firstsOf s = 0 ∷ 0 ∷ 0 ∷ s .object ∷ s .hand ∷ s .hand ∷ s .object ∷ s .hand ∷ []
 
 abbrev pub secondsOf : Sight → ℕ → List ℕ
-secondsOf s d3 = 0 ∷ 0 ∷ 0 ∷ 0 ∷ d3 % 2 ∷ 0 ∷ cond (s .quiet) (d3 % 2) 1 ∷ 0 ∷ []
+secondsOf s d3 = 0 ∷ 0 ∷ 0 ∷ 0 ∷ d3 % 2 ∷ 0 ∷ cond (s .quiet) (d3 % 2) 1 ∷ d3 % 2 ∷ []
 
 -- a delay's time, where the span fits
 abbrev pub delayTime : ℕ → ℕ → ℕ → ℕ

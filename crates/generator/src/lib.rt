@@ -265,7 +265,7 @@ fn command_for(i: u8, s: Sight, clock: u64, span: u32, d2: u32, d3: u32) -> Comm
     let advance = ticks(span, d2);
     let ops = [4, 5, 6, 7, 8, 9, 10, 11];
     let firsts = [0, 0, 0, s.object, s.hand, s.hand, s.object, s.hand];
-    let seconds = [0, 0, 0, 0, barrier, 0, at_entry, 0];
+    let seconds = [0, 0, 0, 0, barrier, 0, at_entry, barrier];
     let values = [delay, 0, advance, 0, 0, 0, 0, 0];
     Command {
         op: cell(ops, i),

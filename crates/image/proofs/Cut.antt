@@ -1,18 +1,19 @@
 -- A number above 255 is out of range wherever it stands, so a command that has one is refused as one of op 0 is: by 4, after 1 and before all
 -- else. The idea: no row of the rules' table of operands has a number above 31 in a or b. Assumes nothing.
-use Prim.Native.Nat.{ℕ, _<_}
+use Prim.Native.Nat.{ℕ, suc, _<_}
 use native.Mathlib.Omega.{arith}
-use mathlib.Core.Path.{_≡_, refl, ap, _∙_}
+use mathlib.Core.Path.{_≡_, refl, sym, ap, _∙_}
 use mathlib.Core.Bool.{Bool, true, false, cond, _&&_, true≢false, and-false}
-use mathlib.Core.List.{List, [], _∷_}
+use mathlib.Core.List.{List}
 use lib.Dec.{eqb, leb}
 use lib.ListN.{length, replicate}
 use borrow.Author.Tests.{ne-eqb, lt-leb, leb-false}
 use Rattle.rules.specs.Line.{within}
 use Rattle.rules.specs.Machine.{Machine, Command, running}
-use Rattle.rules.specs.Refusals.{Operands, unused, barrier, fits, operands, formed, refusal}
+use Rattle.rules.specs.Refusals.{Operand, unused, task, object, priority, barrier, time, ticks, Operands, fits, last-op, operand-rows, operands, formed, refusal}
 use Rattle.rules.specs.Run.{next, released, answer, question}
 use Rattle.rules.proofs.Lists.{all-at}
+use Rattle.rules.proofs.Tests.{tests-is, tests-every}
 use Rattle.kernel.specs.declared.Kernel.{Kernel}
 use Rattle.kernel.specs.declared.Left.{Left}
 use Rattle.kernel.specs.declared.Stepped.{Stepped}
@@ -24,43 +25,42 @@ use Rattle.generator.specs.Public.{profileOf, drawnIn, drawnOf}
 use Rattle.image.specs.Layout.{kernelOf}
 use Rattle.image.specs.Calls.{told, fitted, fittedTask, toldProfile, fittedProfile, drawOn}
 
--- the rows of the table; an op above 11 has the row of no op
-abbrev rows : List Operands
-rows =
-    operands 0 ∷ operands 1 ∷ operands 2 ∷ operands 3 ∷ operands 4 ∷ operands 5 ∷ operands 6 ∷ operands 7 ∷ operands 8 ∷ operands 9 ∷ operands 10
-    ∷ operands 11 ∷ []
+-- what stands in a byte: every operand but a time and ticks
+abbrev in-a-byte : Operand → Bool
+in-a-byte unused = true
+in-a-byte task = true
+in-a-byte object = true
+in-a-byte priority = true
+in-a-byte barrier = true
+in-a-byte time = false
+in-a-byte ticks = false
 
--- what fits no such operand
 module _ (n : ℕ) (h : 255 < n) where
-  no-unused : fits unused n ≡ false
-  no-unused = ne-eqb n 0 (λ e. omega arith)
-
   up-to : (lo hi : ℕ) → hi < 256 → within lo hi n ≡ false
   up-to lo hi k = rw (lt-leb n hi (omega arith)) (and-false (leb lo n))
 
-  no-barrier : fits barrier n ≡ false
-  no-barrier = lt-leb n 1 (omega arith)
+  too-wide : (x : Operand) → in-a-byte x ≡ true → fits x n ≡ false
+  too-wide unused e = ne-eqb n 0 (λ z. omega arith)
+  too-wide task e = up-to 1 31 (omega arith)
+  too-wide object e = up-to 1 7 (omega arith)
+  too-wide priority e = up-to 1 15 (omega arith)
+  too-wide barrier e = lt-leb n 1 (omega arith)
+  too-wide time e = absurd (true≢false (sym e))
+  too-wide ticks e = absurd (true≢false (sym e))
 
+  -- in every row of the table a and b are such; an op past the last has the row of no op
   wide-a : (op : ℕ) → fits (operands op .a) n ≡ false
-  wide-a op =
-      let u = no-unused in
-      let t = up-to 1 31 (omega arith) in
-      let o = up-to 1 7 (omega arith) in
-      all-at (λ (r : Operands). fits (r .a) n ≡ false) rows op (operands 12) u (u, (t, (o, (u, (u, (u, (u, (o, (o, (o, (o, (o, tt))))))))))))
+  wide-a op = too-wide (operands op .a) (all-at (λ (r : Operands). in-a-byte (r .a) ≡ true) operand-rows op (operands (suc last-op)) refl (tests-every (λ (r : Operands). tests-is (in-a-byte (r .a))) operand-rows .sure refl))
 
   wide-b : (op : ℕ) → fits (operands op .b) n ≡ false
-  wide-b op =
-      let u = no-unused in
-      let p = up-to 1 15 (omega arith) in
-      let b = no-barrier in
-      all-at (λ (r : Operands). fits (r .b) n ≡ false) rows op (operands 12) u (u, (p, (p, (u, (u, (u, (u, (u, (b, (u, (b, (u, tt))))))))))))
+  wide-b op = too-wide (operands op .b) (all-at (λ (r : Operands). in-a-byte (r .b) ≡ true) operand-rows op (operands (suc last-op)) refl (tests-every (λ (r : Operands). tests-is (in-a-byte (r .b))) operand-rows .sure refl))
 
 -- The command has a number above 255, so it is not formed.
 unformed : (c : Command) → leb (c .op) 255 && leb (c .a) 255 && leb (c .b) 255 ≡ false → formed c ≡ false
 unformed c = go (leb (c .op) 255) refl (leb (c .a) 255) refl (leb (c .b) 255) refl
   where
     go : (x : Bool) → leb (c .op) 255 ≡ x → (y : Bool) → leb (c .a) 255 ≡ y → (z : Bool) → leb (c .b) 255 ≡ z → x && y && z ≡ false → formed c ≡ false
-    go false e y f z g q = rw (up-to (c .op) (leb-false (c .op) 255 e) 1 11 (omega arith))
+    go false e y f z g q = rw (up-to (c .op) (leb-false (c .op) 255 e) 1 last-op (omega arith))
     go true e false f z g q = rw (wide-a (c .a) (leb-false (c .a) 255 f) (c .op), and-false)
     go true e true f false g q = rw (wide-b (c .b) (leb-false (c .b) 255 g) (c .op), and-false)
     go true e true f true g q = absurd (true≢false q)

@@ -1,5 +1,5 @@
--- Judgements of tapes written out byte by byte, as one table under one statement, by computing: document 01's walk, its last answer made another, and tapes
--- that are no tapes. Rules out: a definition that is wrong as the code is wrong. Assumes nothing.
+-- Judgements of tapes written out byte by byte, by computing: as one table under one statement document 01's walk, its last answer made another, and tapes
+-- that are no tapes; and an old tape's `done`. Rules out: a definition that is wrong as the code is wrong. Assumes nothing.
 use Prim.Native.Nat.{ℕ}
 use mathlib.Core.Path.{_≡_, refl}
 use mathlib.Core.List.{List, [], _∷_, _++_}
@@ -63,3 +63,15 @@ pub worked :
     × (verdict-of (set-up ++ (86 ∷ 82 ∷ []) ++ between) ≡ says 7 (refused 15 5 80))
 unfolding verdict-of judged-from readOf judged endOf nextAt recordOf all-below rules.answer rules.next rules.released refusal carry leave release
 worked = (refl, refl, refl, refl, refl, refl, refl, refl)
+
+-- A record of `done` on a tape of before request 2, when it took no barrier (decision C2-2): create 1 3, object 1 4, start, entry 1 1, and then op 11. With b 0 it
+-- is judged as ever; with b 1 it carried code 4, and differs; with b 2 it is 4 still.
+abbrev entered : List ℕ
+entered = header 7 ++ sixteen 1 1 3 0 0 0 0 ++ sixteen 2 1 4 0 0 0 0 ++ sixteen 3 0 0 0 0 1 0 ++ sixteen 10 1 1 0 0 1 0
+
+pub old-done :
+    (verdict-of (entered ++ sixteen 11 1 0 0 0 1 0) ≡ says 7 (Agrees 5))
+    × (verdict-of (entered ++ sixteen 11 1 1 0 4 1 0) ≡ says 7 (Differs (record { number = 5; command = cmd 11 1 1 0; tape = ans 4 1 0; rules = ans 0 1 0 })))
+    × (verdict-of (entered ++ sixteen 11 1 2 0 4 1 0) ≡ says 7 (Agrees 5))
+unfolding verdict-of judged-from readOf judged endOf nextAt recordOf all-below rules.answer rules.next rules.released refusal carry leave release
+old-done = (refl, refl, refl)

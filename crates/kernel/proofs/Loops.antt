@@ -10,7 +10,7 @@ use lib.ListN.{getD}
 use borrow.Author.Tests.{lt-leb, leb-true, ltb-true, ltb-false, lt-ltb, le-ltb}
 use Rattle.rules.specs.Line.{within}
 use Rattle.rules.specs.Machine.{Command}
-use Rattle.rules.specs.Refusals.{formed, fits, operands}
+use Rattle.rules.specs.Refusals.{last-op, formed, fits, operands}
 
 -- the clock's end
 pub past-end : (clock n : ℕ) → clock < 2 ^ 64 → ltb (18446744073709551615 - clock) n ≡ not (ltb (clock + n) (2 ^ 64))
@@ -24,7 +24,7 @@ past-end clock n h = go (ltb (clock + n) (2 ^ 64)) refl
 up : (k op : ℕ) → k ≤ op → op ≢ k → suc k ≤ op
 up k op h n = omega arith
 
-pub unknown-op : (op : ℕ) → op ≢ 1 → op ≢ 2 → op ≢ 3 → op ≢ 4 → op ≢ 5 → op ≢ 6 → op ≢ 7 → op ≢ 8 → op ≢ 9 → op ≢ 10 → op ≢ 11 → within 1 11 op ≡ false
+pub unknown-op : (op : ℕ) → op ≢ 1 → op ≢ 2 → op ≢ 3 → op ≢ 4 → op ≢ 5 → op ≢ 6 → op ≢ 7 → op ≢ 8 → op ≢ 9 → op ≢ 10 → op ≢ 11 → within 1 last-op op ≡ false
 unknown-op op n1 n2 n3 n4 n5 n6 n7 n8 n9 n10 n11 = go (leb 1 op) refl
   where
     past : 1 ≤ op → 12 ≤ op
@@ -34,7 +34,7 @@ unknown-op op n1 n2 n3 n4 n5 n6 n7 n8 n9 n10 n11 = go (leb 1 op) refl
     go false e = refl
     go true e = lt-leb op 11 (past (leb-true 1 op e))
 
-pub not-formed : (c : Command) → within 1 11 (c .op) ≡ false → false ≡ formed c
+pub not-formed : (c : Command) → within 1 last-op (c .op) ≡ false → false ≡ formed c
 not-formed c e =
     let u = operands (c .op) in
     ap (λ (b : Bool). b && fits (u .a) (c .a) && fits (u .b) (c .b) && fits (u .value) (c .value)) (sym e)

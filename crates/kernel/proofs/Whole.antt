@@ -13,8 +13,8 @@ use borrow.Author.Tests.{eqb-true, ne-eqb, lt-ltb, leb-true, not-false}
 use Rattle.rules.specs.Line.{at, front, empty, first-alone, within}
 use Rattle.rules.specs.Machine.{Machine, Command, tasks, running}
 use Rattle.rules.specs.Table as T
-use Rattle.rules.specs.Table.{Out, same, take, yield, close, sleep, await, none, due, serve, moves, first-due, effect, freed, freed-by, release, leave, carry}
-use Rattle.rules.specs.Refusals.{refusal, fits, operands}
+use Rattle.rules.specs.Table.{Out, same, take, yield, close, sleep, await, none, due, serve, moves, closing, first-due, effect, freed, freed-by, release, leave, carry}
+use Rattle.rules.specs.Refusals.{last-op, refusal, fits, operands}
 use Rattle.rules.specs.Run.{next, released, answer}
 use Rattle.rules.proofs.Words.{All, cmd}
 use Rattle.rules.proofs.Tests.{both-true}
@@ -26,7 +26,7 @@ use Rattle.kernel.specs.declared.Kernel.{Kernel}
 use Rattle.kernel.specs.declared.Stepped.{Stepped}
 use Rattle.kernel.specs.View.{encode, view, times, pad}
 use Rattle.kernel.specs.Public.{isSound, report, stepOf}
-use Rattle.kernel.specs.Step.{first, answered, dueOf, wakeOf, closepOf, carriedOf, refusalOf, refusal-on, refused, refusal-formed, steppedOf, advancedOf, wokenOf, closedOf, servedOf, sleptOf, yieldedOf, heldOf, awaitingOf}
+use Rattle.kernel.specs.Step.{first, answered, dueOf, wakeOf, closingOf, carriedOf, refusalOf, refusal-on, refused, refusal-formed, steppedOf, advancedOf, wokenOf, closedOf, servedOf, sleptOf, yieldedOf, heldOf, awaitingOf}
 use Rattle.kernel.proofs.Padded.{front-pad, Right, own-right}
 use Rattle.kernel.proofs.Round.{waiting-tasks, delayed-tasks, sound-own}
 use Rattle.kernel.proofs.Written.{stands, step-on}
@@ -94,21 +94,21 @@ module _ (m : Machine) (s : Sound m) (on : m .started ≡ true) where
           rw (ne-eqb t 0 (first-real (tasks (m .delay)) (delayed-tasks m s) f), later-zero (release due m), woken-tie m s t f, f)
       go false e = rw (release-none m) (advance-tie m s 0 (omega (arith, s .clock-fits)))
 
-  -- closep: whoever waits is served, and then the runner closes
-  pub closep-tie : (o b : ℕ) → closepOf (encode m) o b ≡ answered (encode (carry m (moves close (cond (eqb b 1) (serve o) none) 0))) (front 0 (freed (cond (eqb b 1) (serve o) none) m))
-  unfolding closepOf carry
-  closep-tie o b = rw (waiter-tie m s o) (go (eqb b 1))
+  -- closep and done: whoever waits is served, and then the runner closes
+  pub closing-tie : (c : Command) → closingOf (encode m) (c .a) (c .b) ≡ answered (encode (carry m (closing c))) (freed-by (closing c) m)
+  unfolding closingOf carry
+  closing-tie c = rw (waiter-tie m s (c .a)) (go (eqb (c .b) 1))
     where
-      served : (q : List ℕ) → getD (m .queue) o [] ≡ q → All (λ t. t ≢ 0) q
-          → cond (eqb (front 0 q) 0) (closedOf (encode m) 0) (closedOf (servedOf (encode m) o (front 0 q)) (front 0 q)) ≡ answered (encode (T.later (leave close (release (serve o) m)) 0)) (front 0 (first-alone q))
-      served [] e k = rw (nobody-served m s o e, later-zero (leave close m)) (close-tie m s 0)
+      served : (q : List ℕ) → getD (m .queue) (c .a) [] ≡ q → All (λ t. t ≢ 0) q
+          → cond (eqb (front 0 q) 0) (closedOf (encode m) 0) (closedOf (servedOf (encode m) (c .a) (front 0 q)) (front 0 q)) ≡ answered (encode (T.later (leave close (release (serve (c .a)) m)) 0)) (front 0 (first-alone q))
+      served [] e k = rw (nobody-served m s (c .a) e, later-zero (leave close m)) (close-tie m s 0)
       served (x ∷ q) e k =
-          let f : freed (serve o) m ≡ x ∷ [] = ap (λ (l : List ℕ). first-alone l) e in
-          rw (ne-eqb x 0 (k .0), served-tie m s o x f, later-zero (leave close (release (serve o) m))) (close-tie (release (serve o) m) (release-sound m s on (serve o)) x)
+          let f : freed (serve (c .a)) m ≡ x ∷ [] = ap (λ (l : List ℕ). first-alone l) e in
+          rw (ne-eqb x 0 (k .0), served-tie m s (c .a) x f, later-zero (leave close (release (serve (c .a)) m))) (close-tie (release (serve (c .a)) m) (release-sound m s on (serve (c .a))) x)
 
-      go : (x : Bool) → cond (eqb (cond x (front 0 (getD (m .queue) o [])) 0) 0) (closedOf (encode m) 0) (closedOf (servedOf (encode m) o (cond x (front 0 (getD (m .queue) o [])) 0)) (cond x (front 0 (getD (m .queue) o [])) 0))
-          ≡ answered (encode (T.later (leave close (release (cond x (serve o) none) m)) 0)) (front 0 (freed (cond x (serve o) none) m))
-      go true = served (getD (m .queue) o []) refl (waiting-tasks m s o)
+      go : (x : Bool) → cond (eqb (cond x (front 0 (getD (m .queue) (c .a) [])) 0) 0) (closedOf (encode m) 0) (closedOf (servedOf (encode m) (c .a) (cond x (front 0 (getD (m .queue) (c .a) [])) 0)) (cond x (front 0 (getD (m .queue) (c .a) [])) 0))
+          ≡ answered (encode (T.later (leave close (release (cond x (serve (c .a)) none) m)) 0)) (front 0 (freed (cond x (serve (c .a)) none) m))
+      go true = served (getD (m .queue) (c .a) []) refl (waiting-tasks m s (c .a))
       go false = rw (release-none m, later-zero (leave close m)) (close-tie m s 0)
 
 -- Every accepted op.
@@ -128,12 +128,12 @@ module _ (m : Machine) (s : Sound m) where
   unfolding carry leave release
   advance-row n = refl
 
-  unknown : {A : Type 0} (op a b v : ℕ) → refusal m (cmd op a b v) ≡ 0 → (1 ≤ op → op ≤ 11 → ⊥) → A
+  unknown : {A : Type 0} (op a b v : ℕ) → refusal m (cmd op a b v) ≡ 0 → (1 ≤ op → op ≤ last-op → ⊥) → A
   unknown op a b v ok n =
-      let f = both-true (within 1 11 op && fits (operands op .a) a && fits (operands op .b) b) (fits (operands op .value) v) (not-false _ (check-passed m (cmd op a b v) ok 4)) .0 in
-      let g = both-true (within 1 11 op && fits (operands op .a) a) (fits (operands op .b) b) f .0 in
-      let h = both-true (within 1 11 op) (fits (operands op .a) a) g .0 in
-      let k = both-true (leb 1 op) (leb op 11) h in
+      let f = both-true (within 1 last-op op && fits (operands op .a) a && fits (operands op .b) b) (fits (operands op .value) v) (not-false _ (check-passed m (cmd op a b v) ok 4)) .0 in
+      let g = both-true (within 1 last-op op && fits (operands op .a) a) (fits (operands op .b) b) f .0 in
+      let h = both-true (within 1 last-op op) (fits (operands op .a) a) g .0 in
+      let k = both-true (leb 1 op) (leb op last-op) h in
       absurd (n (leb-true _ _ (k .0)) (leb-true _ _ (k .1)))
 
   delay-row : (v : ℕ) (b : Bool) → AllowedOut m (cond b (sleep v) yield) → cond b (sleptOf (encode m) v) (yieldedOf (encode m)) ≡ answered (encode (carry m (moves (cond b (sleep v) yield) none 0))) 0
@@ -154,10 +154,10 @@ module _ (m : Machine) (s : Sound m) where
   by-op (suc (suc (suc (suc (suc zero))))) a b v ok = wake-tie m s (allowed m s (cmd 5 a b v) ok .on)
   by-op (suc (suc (suc (suc (suc (suc zero)))))) a b v ok = advance-tie m s v (allowed m s (cmd 6 a b v) ok .in-time) ∙ advance-row v
   by-op (suc (suc (suc (suc (suc (suc (suc zero))))))) a b v ok = take-tie m s a 1 ∙ still (take a 1) 0
-  by-op (suc (suc (suc (suc (suc (suc (suc (suc zero)))))))) a b v ok = closep-tie m s (allowed m s (cmd 8 a b v) ok .on) a b
+  by-op (suc (suc (suc (suc (suc (suc (suc (suc zero)))))))) a b v ok = closing-tie m s (allowed m s (cmd 8 a b v) ok .on) (cmd 8 a b v)
   by-op (suc (suc (suc (suc (suc (suc (suc (suc (suc zero))))))))) a b v ok = close-tie m s 0 ∙ still close 0
   by-op (suc (suc (suc (suc (suc (suc (suc (suc (suc (suc zero)))))))))) a b v ok = entry-row a (eqb b 1) (leaves (cond (eqb b 1) (take a 2) (await a)) (allowed m s (cmd 10 a b v) ok .leaves))
-  by-op (suc (suc (suc (suc (suc (suc (suc (suc (suc (suc (suc zero))))))))))) a b v ok = close-tie m s 0 ∙ still close 0
+  by-op (suc (suc (suc (suc (suc (suc (suc (suc (suc (suc (suc zero))))))))))) a b v ok = closing-tie m s (allowed m s (cmd 11 a b v) ok .on) (cmd 11 a b v)
   by-op (suc (suc (suc (suc (suc (suc (suc (suc (suc (suc (suc (suc op)))))))))))) a b v ok = unknown (suc (suc (suc (suc (suc (suc (suc (suc (suc (suc (suc (suc op)))))))))))) a b v ok (λ h k. omega arith)
 
   running-tie : cond (encode m .started) (first (encode m)) 0 ≡ running m

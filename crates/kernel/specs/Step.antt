@@ -7,7 +7,7 @@ use lib.Dec.{eqb, leb, ltb}
 use lib.ListN.{getD, set}
 use Rattle.rules.specs.Line.{at, count, within}
 use Rattle.rules.specs.Machine.{Command}
-use Rattle.rules.specs.Refusals.{formed, first-number}
+use Rattle.rules.specs.Refusals.{last-op, formed, first-number}
 use Rattle.line.specs.Tables.{place, pop, lower, later, more, with-time, time-in}
 use Rattle.kernel.specs.declared.Kernel.{Kernel}
 use Rattle.kernel.specs.declared.Stepped.{Stepped}
@@ -99,8 +99,8 @@ waitingOf k o b = cond (eqb b 1) (at (k .waiter) o) 0
 unfoldable pub wakeOf : Kernel → Stepped
 wakeOf k = cond (eqb (dueOf k) 0) (advancedOf k 0) (wokenOf k (dueOf k))
 
-unfoldable pub closepOf : Kernel → ℕ → ℕ → Stepped
-closepOf k o b = cond (eqb (waitingOf k o b) 0) (closedOf k 0) (closedOf (servedOf k o (waitingOf k o b)) (waitingOf k o b))
+unfoldable pub closingOf : Kernel → ℕ → ℕ → Stepped
+closingOf k o b = cond (eqb (waitingOf k o b) 0) (closedOf k 0) (closedOf (servedOf k o (waitingOf k o b)) (waitingOf k o b))
 
 -- an accepted command carried out
 unfoldable pub carriedOf : Kernel → Command → Stepped
@@ -114,19 +114,19 @@ carriedOf k c =
     wakeOf k ∷
     advancedOf k (c .value) ∷
     heldOf k (c .a) 1 ∷
-    closepOf k (c .a) (c .b) ∷
+    closingOf k (c .a) (c .b) ∷
     closedOf k 0 ∷
     cond (eqb (c .b) 1) (heldOf k (c .a) 2) (awaitingOf k (c .a)) ∷
-    closedOf k 0 ∷ [])
+    closingOf k (c .a) (c .b) ∷ [])
     (c .op) (advancedOf k (c .value))
 
 -- ---- the refusals: the rules' checks behind 4, over what they look at
 abbrev pub checksOf : Command → Case → List (Bool × ℕ)
 checksOf c s =
-    let uses = within 7 11 (c .op) in
+    let uses = within 7 last-op (c .op) in
     let takes = eqb (c .op) 7 || eqb (c .op) 10 in
     let holds = eqb (s .held) (c .a) in
-    (within 4 11 (c .op) && not (s .started), 2) ∷
+    (within 4 last-op (c .op) && not (s .started), 2) ∷
     (within 1 3 (c .op) && s .started, 3) ∷
     (eqb (c .op) 1 && (eqb (c .a) 0 || not (eqb (s .named) 0)) || eqb (c .op) 2 && not (eqb (s .ceiling) 0), 5) ∷
     (uses && eqb (s .ceiling) 0, 6) ∷

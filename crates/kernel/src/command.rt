@@ -10,7 +10,10 @@ use crate::Kernel;
 use line::POId;
 use line::TaskID;
 
-// Any numbers: an op that is not 1..11 is refused, and so is an operand out of its range.
+// Ops are 1 to this one.
+const LAST_OP: u8 = 11;
+
+// Any numbers: an op that is not 1..LAST_OP is refused, and so is an operand out of its range.
 pub struct Command {
     pub op: u8,
     pub a: u8,
@@ -63,7 +66,7 @@ impl Command {
             8 => object & (b <= 1) & none,
             9 => object & (b == 0) & none,
             10 => object & (b <= 1) & none,
-            11 => object & (b == 0) & none,
+            11 => object & (b <= 1) & none,
             _ => false,
         }
     }
@@ -74,7 +77,7 @@ impl Command {
     {
         let op = self.op;
         let a = self.a;
-        let uses = (7 <= op) & (op <= 11);
+        let uses = (7 <= op) & (op <= LAST_OP);
         let takes = (op == 7) | (op == 10);
         let holds = s.held == a;
         let n = line::choose((op == 6) & passes_end(s.clock, self.value), 13, 0);
@@ -89,7 +92,7 @@ impl Command {
         let taken = (op == 1) & ((a == 0) | !(s.named == 0));
         let n = line::choose(taken | (op == 2) & !(s.ceiling == 0), 5, n);
         let n = line::choose((1 <= op) & (op <= 3) & s.started, 3, n);
-        line::choose((4 <= op) & (op <= 11) & !s.started, 2, n)
+        line::choose((4 <= op) & (op <= LAST_OP) & !s.started, 2, n)
     }
 
     // The number of the first test that holds, Range before all others; 0 for none.

@@ -181,7 +181,7 @@ impl Kernel {
             } else {
                 self.awaiting(POId(c.a))
             },
-            11 => self.closed(0),
+            11 => self.closing(POId(c.a), c.b),
             _ => self.advanced(c.value),
         }
     }

@@ -166,7 +166,7 @@ impl Kernel {
         }
     }
 
-    // 8, where t waits and the barrier is open: it goes to the tail of its base
+    // 8 and 11, where t waits and the barrier is open: it goes to the tail of its base
     pub(crate) fn served(self, o: POId, t: TaskID) -> Kernel
         ensures { λ r. ⌜ r ≡ step.servedOf self (o .0) (t .0) ⌝ }
     {
@@ -255,9 +255,9 @@ impl Kernel {
         }
     }
 
-    // 8: whoever waits, if the barrier is open; then the runner
+    // 8 and 11: whoever waits, if the barrier is open; then the runner
     pub(crate) fn closing(self, o: POId, barrier: u8) -> Stepped
-        ensures { λ r. ⌜ r ≡ step.closepOf self (o .0) barrier ⌝ }
+        ensures { λ r. ⌜ r ≡ step.closingOf self (o .0) barrier ⌝ }
     {
         let t = self.first_waiting(o, barrier);
         if t == 0 {

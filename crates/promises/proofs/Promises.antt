@@ -5,11 +5,12 @@
 use Prim.Native.Nat.{ℕ, zero, suc, _-_, _≤_, _<_}
 use native.Mathlib.Omega.{arith}
 use mathlib.Core.Path.{_≡_, refl, sym, ap, _∙_, subst}
-use mathlib.Core.Logic.{_≢_, _↔_}
+use mathlib.Core.Logic.{_≢_, _↔_, _⊎_}
 use mathlib.Core.Bool.{true, false}
-use mathlib.Core.List.{List, _∷_, map}
-use lib.ListN.{replicate}
-use Rattle.rules.specs.Line.{at}
+use mathlib.Core.List.{List, [], _∷_, map}
+use lib.ListN.{getD, replicate, List·getD-map}
+use borrow.Author.Tests.{eq-eqb}
+use Rattle.rules.specs.Line.{at, front}
 use Rattle.rules.specs.Machine.{Machine, fresh, running}
 use Rattle.rules.specs.Machine as Rules
 use Rattle.rules.specs.Run.{next, released, answer, run, answers}
@@ -148,6 +149,14 @@ held-tie : (m : Machine) → encode m .held ≡ m .held
 unfolding encode
 held-tie m = refl
 
+-- who waits on each object: the first of its queue, 0 for nobody
+waiters : (m : Machine) → encode m .waiter ≡ map (front 0) (m .queue)
+unfolding encode
+waiters m = refl
+
+waiting : (m : Machine) (o : ℕ) → at (encode m .waiter) o ≡ front 0 (getD (m .queue) o [])
+waiting m o = ap (λ (l : List ℕ). at l o) (waiters m) ∙ List·getD-map (front 0) (m .queue) o []
+
 running-behind : (n : Machine) → Sound n → (after : List Command) → runningOf (runOf (encode n) after) ≡ running (run n (map said after))
 running-behind n s after = ap (λ (x : Kernel). runningOf x) (run-tie after n s) ∙ running-tie (run n (map said after)) (run-sound (map said after) n s)
 
@@ -166,15 +175,40 @@ lower-on n s t low object f after k lt =
     let w = f cs (never-ran n s t after k) lt′ in
     (r ∙ w .0, w .1, moments-all (λ x. at (x .held) low ≡ object) (λ x. at (x .held) low ≡ object) (λ m sm h. ap (λ (l : List ℕ). at l low) (held-tie m) ∙ h) after n s (w .2))
 
+-- ## Who releases, and whom
+-- An answer releases a task only for a Wake, a closep or a done. Of the last two, when accepted: with barrier 1 the task that waits on the object (0: none
+-- does), and nobody waits there any more; with barrier 0 nobody, and who waits waits on.
+-- Rules out: an entry's end that passes the waiter over, one that releases behind a shut barrier, a waiter that is named and not let go.
+-- Leaves: where the released task goes (the contract of the step), and when it runs (the promise on releases).
+pub released-by-three : (before : List Command) (c : Command) → let k = runOf freshOf before in
+    stepped k c .answer .released .0 ≢ 0 → (c .op ≡ 5) ⊎ (c .op ≡ 8) ⊎ (c .op ≡ 11)
+unfolding answer
+released-by-three before c = rw (run-from-fresh before, step-on (behind before) (behind-sound before) (said c)) (λ z. rules.released-by-three (map said before) (said c) z)
+
+pub open-serves : (before : List Command) (c : Command) → let k = runOf freshOf before in
+    stepped k c .answer .code ≡ 0 → (c .op ≡ 8) ⊎ (c .op ≡ 11) → c .b ≡ 1
+    → (stepped k c .answer .released .0 ≡ at (k .waiter) (c .a)) × (at (stepped k c .next .waiter) (c .a) ≡ 0)
+unfolding answer
+open-serves before c = rw (run-from-fresh before, step-on (behind before) (behind-sound before) (said c)) (λ ok op b.
+    let w = rules.open-serves (map said before) (said c) (eq-eqb _ 0 ok) op b in
+    (w .0 ∙ sym (waiting (behind before) (c .a)), waiting (next (behind before) (said c)) (c .a) ∙ ap (front 0) (w .1)))
+
+pub shut-serves-nobody : (before : List Command) (c : Command) → let k = runOf freshOf before in
+    stepped k c .answer .code ≡ 0 → (c .op ≡ 8) ⊎ (c .op ≡ 11) → c .b ≡ 0 → (stepped k c .answer .released .0 ≡ 0) × (stepped k c .next .waiter ≡ k .waiter)
+unfolding answer
+shut-serves-nobody before c = rw (run-from-fresh before, step-on (behind before) (behind-sound before) (said c)) (λ ok op b.
+    let w = rules.shut-serves-nobody (map said before) (said c) (eq-eqb _ 0 ok) op b in
+    (w .0, waiters (next (behind before) (said c)) ∙ ap (λ (q : List (List ℕ)). map (front 0) q) (w .1) ∙ sym (waiters (behind before))))
+
 -- ## The promise on releases
--- Whenever an answer releases task t: there is one task `low` and one object such that, at every later moment at which t has not run yet
--- (the moment of the release among them), if a task of a base below t's runs, then it is `low`; it held that object at the release, and
--- has held it at every moment since, so it has closed it at none of the commands between. `low` and the object are found at the release,
--- before any later command is known: so the tasks of lower base that run at any two such moments are one task.
+-- Whenever an answer releases task t, be it for a Wake, a closep or a done: there is one task `low` and one object such that, at every later
+-- moment at which t has not run yet (the moment of the release among them), if a task of a base below t's runs, then it is `low`; it held that
+-- object at the release, and has held it at every moment since, so it has closed it at none of the commands between. `low` and the object are
+-- found at the release, before any later command is known: so the tasks of lower base that run at any two such moments are one task.
 -- Bases are those at the release: no command changes one after Start. Idle holds nothing, so it is never `low`.
 -- Rules out: a closing runner that keeps its place, a second low task in between, a holder that loses its object unclosed.
--- Leaves: a step that releases nobody, closings that do nothing, ceilings without effect, a released task in front of its equals
--- (the contract of the step; the rules' theorems closing-empties, ahead-of-a-holder and woken-to-tail; and the walk).
+-- Leaves: a step that releases nobody (open-serves above, and the walk), closings that do nothing, ceilings without effect, a released task in
+-- front of its equals (the contract of the step; the rules' theorems closing-empties, ahead-of-a-holder, woken-to-tail and served-to-tail).
 pub release-promise : (before : List Command) (c : Command) → let k = runOf freshOf before in let now = stepped k c .next in let t = stepped k c .answer .released .0 in
     t ≢ 0 → (low : ℕ) × (object : ℕ) × ((after : List Command) → All (λ s. runningOf s ≢ t) (momentsOf now after)
     → let then = runOf now after in at (now .base) (runningOf then) < at (now .base) t

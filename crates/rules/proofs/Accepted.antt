@@ -1,9 +1,9 @@
--- What an accepted command has shown: none of the checks held, and so its row of the op table is allowed.
+-- What an accepted command has shown: none of the checks held, and so its row of the op table is allowed; and which ops release.
 -- The one place where the theorems go through the ops one by one; all others go by the row. Assumes nothing.
 use Prim.Native.Nat.{ℕ, zero, suc, _+_, _≤_, _<_, _^_}
 use native.Mathlib.Omega.{arith}
 use mathlib.Core.Path.{_≡_, refl, sym, ap, _∙_}
-use mathlib.Core.Logic.{_≢_}
+use mathlib.Core.Logic.{_≢_, _⊎_, inl, inr}
 use mathlib.Core.Bool.{Bool, true, false, cond, not, _&&_, true≢false}
 use mathlib.Core.List.{List, [], _∷_}
 use lib.Dec.{eqb, leb, ltb}
@@ -11,7 +11,7 @@ use lib.ListN.{getD}
 use borrow.Author.Tests.{eqb-true, eq-eqb, eqb-false, ltb-true, ltb-false, leb-true, leb-false, le-ltb, not-false, not-true}
 use Rattle.rules.specs.Line.{at, within, front, empty, first-alone, at-tail, count}
 use Rattle.rules.specs.Machine.{Machine, Command, active, runner, created}
-use Rattle.rules.specs.Table.{Out, same, take, yield, sleep, await, Rel, none, serve, Effect, nothing, creates, declares, begins, moves, effect, freed, enter, release}
+use Rattle.rules.specs.Table.{Out, same, take, yield, sleep, await, Rel, none, due, serve, Effect, nothing, creates, declares, begins, moves, opens, closing, effect, freed, enter, release}
 use Rattle.rules.specs.Refusals.{checks, first-number, refusal, fits, holds-so}
 use Rattle.rules.proofs.Words.{All, cmd}
 use Rattle.rules.proofs.Lists.{all-map, count-place}
@@ -102,6 +102,10 @@ module _ (m : Machine) (s : Sound m) where
   closes-front o h w q true = runner-stays o (eqb-true _ _ (both-true _ _ (not-false _ q) .0)) (is-declared o h)
   closes-front o h w q false = refl
 
+  -- The end of a body with a barrier: the runner holds the object, in whatever way, and stays in front of whoever is served.
+  closes : (c : Command) (w : ℕ) → m .started ≡ true → not (not (eqb (at (m .ceiling) (c .a)) 0)) ≡ false → runner m ≢ 0 → not (holds-so m (c .a) w) ≡ false → Allowed m (closing c)
+  closes c w on there busy so = let k = closes-front (c .a) there w so (opens c) in record { on = on; leaves = λ z. busy (sym k ∙ z); in-front = λ n. k; in-time = still }
+
   enters : (o b : ℕ) → MayLeave m → Admits m o (runner m) → count o (m .held) ≡ 0 → leb b 1 ≡ true → eqb b 0 && not (empty (getD (m .queue) o [])) ≡ false → (x : Bool) → eqb b 1 ≡ x
       → AllowedOut m (cond x (take o 2) (await o))
   enters o b g a u l e true q = record { leaves = g; admits = a; unheld = u; in-one-way = (omega arith, omega arith) }
@@ -141,8 +145,7 @@ module _ (m : Machine) (s : Sound m) where
       record { on = not-false _ (p 2); leaves = record { leaves = leaves (p 7) (p 8); admits = (is-declared a (p 6), ltb-false _ _ (p 10)); unheld = (let z : count a (m .held) < 1 = leb-false _ _ (p 11) in omega arith); in-one-way = (omega arith, omega arith) }; in-front = λ n. refl; in-time = still }
   by-op (suc (suc (suc (suc (suc (suc (suc (suc zero)))))))) a b v ok =
       let p = check-passed m (cmd 8 a b v) ok in
-      let k = closes-front a (p 6) 1 (both-false _ false (p 9) .0) (eqb b 1) in
-      record { on = not-false _ (p 2); leaves = λ z. eqb-false _ _ (p 7) (sym k ∙ z); in-front = λ n. k; in-time = still }
+      closes (cmd 8 a b v) 1 (not-false _ (p 2)) (p 6) (eqb-false _ _ (p 7)) (both-false _ false (p 9) .0)
   by-op (suc (suc (suc (suc (suc (suc (suc (suc (suc zero))))))))) a b v ok =
       let p = check-passed m (cmd 9 a b v) ok in
       record { on = not-false _ (p 2); leaves = eqb-false _ _ (p 7); in-front = λ n. refl; in-time = still }
@@ -152,8 +155,40 @@ module _ (m : Machine) (s : Sound m) where
       record { on = not-false _ (p 2); leaves = enters a b (leaves (p 7) (p 8)) (is-declared a (p 6), ltb-false _ _ (p 10)) (let z : count a (m .held) < 1 = leb-false _ _ (p 11) in omega arith) f (p 12) (eqb b 1) refl; in-front = λ n. refl; in-time = still }
   by-op (suc (suc (suc (suc (suc (suc (suc (suc (suc (suc (suc zero))))))))))) a b v ok =
       let p = check-passed m (cmd 11 a b v) ok in
-      record { on = not-false _ (p 2); leaves = eqb-false _ _ (p 7); in-front = λ n. refl; in-time = still }
+      closes (cmd 11 a b v) 2 (not-false _ (p 2)) (p 6) (eqb-false _ _ (p 7)) (p 9)
   by-op (suc (suc (suc (suc (suc (suc (suc (suc (suc (suc (suc (suc op)))))))))))) a b v ok = tt
 
   pub allowed : (c : Command) → refusal m c ≡ 0 → Allowed m (effect m c)
   allowed c ok = by-op (c .op) (c .a) (c .b) (c .value) ok
+
+-- Which ops may release: a Wake; closep and done, and these nobody from the delay line; and no other.
+abbrev pub rel-of : Effect → Rel
+rel-of nothing = none
+rel-of (creates t p) = none
+rel-of (declares o p) = none
+rel-of begins = none
+rel-of (moves out rel n) = rel
+
+pub not-due : {A : Type 0} (b : Bool) (o : ℕ) → cond b (serve o) none ≡ due → A
+not-due true o e = let z : _≡_ {A = ℕ} 0 1 = cc in absurd (omega arith)
+not-due false o e = let z : _≡_ {A = ℕ} 0 1 = cc in absurd (omega arith)
+
+pub data Releases (op : ℕ) (rel : Rel) : Type 0 where
+  nobody : rel ≡ none → Releases op rel
+  waking : op ≡ 5 → Releases op rel
+  serving : (op ≡ 8) ⊎ (op ≡ 11) → (rel ≡ due → ⊥) → Releases op rel
+
+pub releases : (m : Machine) (op a b v : ℕ) → Releases op (rel-of (effect m (cmd op a b v)))
+releases m zero a b v = nobody refl
+releases m (suc zero) a b v = nobody refl
+releases m (suc (suc zero)) a b v = nobody refl
+releases m (suc (suc (suc zero))) a b v = nobody refl
+releases m (suc (suc (suc (suc zero)))) a b v = nobody refl
+releases m (suc (suc (suc (suc (suc zero))))) a b v = waking refl
+releases m (suc (suc (suc (suc (suc (suc zero)))))) a b v = nobody refl
+releases m (suc (suc (suc (suc (suc (suc (suc zero))))))) a b v = nobody refl
+releases m (suc (suc (suc (suc (suc (suc (suc (suc zero)))))))) a b v = serving (inl refl) (not-due (opens (cmd 8 a b v)) a)
+releases m (suc (suc (suc (suc (suc (suc (suc (suc (suc zero))))))))) a b v = nobody refl
+releases m (suc (suc (suc (suc (suc (suc (suc (suc (suc (suc zero)))))))))) a b v = nobody refl
+releases m (suc (suc (suc (suc (suc (suc (suc (suc (suc (suc (suc zero))))))))))) a b v = serving (inr refl) (not-due (opens (cmd 11 a b v)) a)
+releases m (suc (suc (suc (suc (suc (suc (suc (suc (suc (suc (suc (suc op)))))))))))) a b v = nobody refl

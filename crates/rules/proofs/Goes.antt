@@ -1,21 +1,23 @@
--- Where each part of `carry` puts a task, in the paper's words: the law of placing (Placing.antt), told of the step itself; and what a
--- closing runner holds. Rules out: the head of a base for the tail and the other way round, a tie in the wrong order. Leaves: which part a
--- row of the op table has (Table.antt, Walk and Corners).
+-- Where each part of `carry` puts a task, in the paper's words: the law of placing (Placing.antt), told of the step itself; what a
+-- closing runner holds, and whom it releases. Rules out: the head of a base for the tail and the other way round, a tie in the wrong order.
+-- Leaves: which part another row of the op table has (Table.antt, Walk and Corners).
 -- `Split P Q t before after`: the line before is some tasks with P and then some with Q; after, t stands between them. Assumes nothing.
 use Prim.Native.Nat.{ℕ, suc, _≤_, _<_}
 use native.Mathlib.Omega.{arith}
-use mathlib.Core.Path.{_≡_, sym, subst}
-use mathlib.Core.Logic.{_⊎_, inl, inr}
-use mathlib.Core.Bool.{true, cond}
-use mathlib.Core.List.{[], _∷_}
+use mathlib.Core.Path.{_≡_, refl, sym, subst, _∙_}
+use mathlib.Core.Logic.{_⊎_, inl, inr, ⊎-elim}
+use mathlib.Core.Bool.{Bool, true, false, cond}
+use mathlib.Core.List.{List, [], _∷_}
 use lib.Dec.{eqb}
+use lib.ListN.{getD, set, length, length-set, List·getD-eq-default}
+use lib.Seq.{getD-set-same}
 use borrow.Author.Tests.{eqb-true}
-use Rattle.rules.specs.Line.{at, rest}
+use Rattle.rules.specs.Line.{at, front, rest}
 use Rattle.rules.specs.Machine.{Machine, Command, active, runner}
-use Rattle.rules.specs.Table.{Rel, Effect, close, yield, sleep, none, serve, due, creates, moves, freed, effect, release, leave, carry}
-use Rattle.rules.specs.Run.{accepts, next}
+use Rattle.rules.specs.Table.{Rel, Effect, close, yield, sleep, none, serve, due, creates, moves, closing, freed, freed-by, effect, release, leave, carry}
+use Rattle.rules.specs.Run.{accepts, next, released}
 use Rattle.rules.proofs.Words.{Pairwise}
-use Rattle.rules.proofs.Lists.{pairwise-rest}
+use Rattle.rules.proofs.Lists.{pairwise-rest, all-at, lt-or-ge}
 use Rattle.rules.proofs.Sounds.{Sound}
 use Rattle.rules.proofs.Placing.{Split, tail-splits, head-splits, time-splits}
 use Rattle.rules.proofs.Kept.{behind-falls, new-held, release-sound}
@@ -53,29 +55,74 @@ module _ (m : Machine) (s : Sound m) where
   created-to-tail t p k = tail-splits (active (carry m (creates t p))) p t (m .ready) k
 
   -- Whoever closes, whomever it releases, holds nothing.
-  closing : (rel : Rel) (n : ℕ) → Allowed m (moves close rel n) → at (carry m (moves close rel n) .held) (runner m) ≡ 0
+  emptied : (rel : Rel) (n : ℕ) → Allowed m (moves close rel n) → at (carry m (moves close rel n) .held) (runner m) ≡ 0
   unfolding carry leave
-  closing rel n g =
+  emptied rel n g =
       subst (λ (x : ℕ). at (leave close (release rel m) .held) x ≡ 0) (g .in-front (λ e. let z : _≡_ {A = ℕ} 0 1 = cc in absurd (omega arith))) (new-held (release rel m) (release-sound m s (g .on) rel) 0)
 
--- The rows of the three closings.
-closep-row : (m : Machine) (c : Command) → c .op ≡ 8 → effect m c ≡ moves close (cond (eqb (c .b) 1) (serve (c .a)) none) 0
+  -- Whom the end of a body with a barrier releases: with barrier 1 the first that waits on the object, with barrier 0 nobody.
+  serves : (c : Command) → freed-by (closing c) m ≡ cond (eqb (c .b) 1) (front 0 (getD (m .queue) (c .a) [])) 0
+  serves c = go (eqb (c .b) 1) (getD (m .queue) (c .a) []) refl
+    where
+      go : (x : Bool) (q : List ℕ) → getD (m .queue) (c .a) [] ≡ q → front 0 (freed (cond x (serve (c .a)) none) m) ≡ cond x (front 0 q) 0
+      go true [] e = rw e
+      go true (t ∷ q) e = rw e
+      go false q e = refl
+
+  -- Behind barrier 1 nobody waits on the object any more.
+  none-wait : (o : ℕ) → getD (carry m (moves close (serve o) 0) .queue) o [] ≡ []
+  unfolding carry leave release
+  none-wait o = ⊎-elim (λ (h : o < length (m .queue)). getD-set-same (m .queue) o _ [] h ∙ alone (getD (m .queue) o []) (all-at (λ q. length q ≤ 1) (m .queue) o [] (omega arith) (s .waiters))) past (lt-or-ge o (length (m .queue)))
+    where
+      alone : (q : List ℕ) → length q ≤ 1 → rest q ≡ []
+      alone [] h = refl
+      alone (x ∷ []) h = refl
+      alone (x ∷ (y ∷ q)) h = absurd (omega arith)
+
+      past : length (m .queue) ≤ o → getD (set (m .queue) o (rest (getD (m .queue) o []))) o [] ≡ []
+      past h = List·getD-eq-default (set (m .queue) o (rest (getD (m .queue) o []))) [] {n = o} (let z = length-set (m .queue) o (rest (getD (m .queue) o [])) in omega arith)
+
+-- The rows of the three closings: closep and done have the same.
+closep-row : (m : Machine) (c : Command) → c .op ≡ 8 → effect m c ≡ closing c
 closep-row m c e = rw e
 
 closef-row : (m : Machine) (c : Command) → c .op ≡ 9 → effect m c ≡ moves close none 0
 closef-row m c e = rw e
 
-done-row : (m : Machine) (c : Command) → c .op ≡ 11 → effect m c ≡ moves close none 0
+done-row : (m : Machine) (c : Command) → c .op ≡ 11 → effect m c ≡ closing c
 done-row m c e = rw e
+
+-- With barrier 0 the row of done is the one that document 01 gives it: so (0 being in range as an unused operand and as a barrier) a tape whose
+-- op 11 records have b 0 is judged as it was before request 2.
+pub shut-done-is-old : (m : Machine) (c : Command) → c .op ≡ 11 → c .b ≡ 0 → effect m c ≡ moves close none 0
+shut-done-is-old m c e z = rw (e, z)
 
 pub closed-holds-nothing : (m : Machine) → Sound m → (c : Command) → accepts m c ≡ true → (c .op ≡ 8) ⊎ (c .op ≡ 9) ⊎ (c .op ≡ 11) → at (next m c .held) (runner m) ≡ 0
 unfolding next
 closed-holds-nothing m s c ok op = rw ok (go op)
   where
     of-row : (rel : Rel) → effect m c ≡ moves close rel 0 → at (carry m (effect m c) .held) (runner m) ≡ 0
-    of-row rel e = subst (λ (x : Effect). Allowed m x → at (carry m x .held) (runner m) ≡ 0) (sym e) (λ g. closing m s rel 0 g) (allowed m s c (eqb-true _ _ ok))
+    of-row rel e = subst (λ (x : Effect). Allowed m x → at (carry m x .held) (runner m) ≡ 0) (sym e) (λ g. emptied m s rel 0 g) (allowed m s c (eqb-true _ _ ok))
 
     go : (c .op ≡ 8) ⊎ (c .op ≡ 9) ⊎ (c .op ≡ 11) → at (carry m (effect m c) .held) (runner m) ≡ 0
     go (inl e) = of-row _ (closep-row m c e)
     go (inr (inl e)) = of-row none (closef-row m c e)
-    go (inr (inr e)) = of-row none (done-row m c e)
+    go (inr (inr e)) = of-row _ (done-row m c e)
+
+-- An accepted closep or done serves by its barrier: with 1 it releases the first that waits on its object, and nobody waits there any more;
+-- with 0 it releases nobody, and who waits waits on.
+module _ (m : Machine) (s : Sound m) (c : Command) (ok : accepts m c ≡ true) (op : (c .op ≡ 8) ⊎ (c .op ≡ 11)) where
+  its-row : effect m c ≡ closing c
+  its-row = ⊎-elim (λ (e : c .op ≡ 8). closep-row m c e) (λ (e : c .op ≡ 11). done-row m c e) op
+
+  pub closing-serves : released m c ≡ cond (eqb (c .b) 1) (front 0 (getD (m .queue) (c .a) [])) 0
+  unfolding released
+  closing-serves = rw (ok, its-row) (serves m s c)
+
+  pub served-waits-no-more : c .b ≡ 1 → getD (next m c .queue) (c .a) [] ≡ []
+  unfolding next
+  served-waits-no-more e = rw (ok, its-row, e) (none-wait m s (c .a))
+
+  pub shut-keeps-waiters : c .b ≡ 0 → next m c .queue ≡ m .queue
+  unfolding next carry leave release
+  shut-keeps-waiters e = rw (ok, its-row, e)

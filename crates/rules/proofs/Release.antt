@@ -19,7 +19,7 @@ use Rattle.rules.proofs.Words.{All, Pairwise, moments, Clear}
 use Rattle.rules.proofs.Lists.{all-map, eq-or-ne, lt-or-ge, one-self}
 use Rattle.rules.proofs.Sounds.{Sound, act-free, based, others, object-real}
 use Rattle.rules.proofs.Kept.{AllowedOut, freed-away, release-sound, new-held, other-held}
-use Rattle.rules.proofs.Accepted.{Allowed}
+use Rattle.rules.proofs.Accepted.{Allowed, rel-of, Releases, nobody, waking, serving, releases}
 use Rattle.rules.proofs.Step.{Step, kept, carried, step, next-sound, moved-started}
 use Rattle.rules.proofs.Clear.{Over}
 
@@ -231,6 +231,26 @@ released-behind m s k c n = go (step m s c)
     go : Step m c → (low : ℕ) × Stands (next m c) (released m c) (at (m .base) (released m c)) low (at (m .held) low) × (next m c .started ≡ true)
     go (kept e f w) = absurd (n f)
     go (carried e f w g) = rw (e, f) (carried-behind m s k (effect m c) g (λ z. n (f ∙ z)))
+
+-- Only a Wake, a closep or a done releases.
+freed-of : (e : Effect) (m : Machine) → freed-by e m ≡ front 0 (freed (rel-of e) m)
+freed-of nothing m = refl
+freed-of (creates t p) m = refl
+freed-of (declares o p) m = refl
+freed-of begins m = refl
+freed-of (moves out rel n) m = refl
+
+pub released-by : (m : Machine) → Sound m → (c : Command) → released m c ≢ 0 → (c .op ≡ 5) ⊎ (c .op ≡ 8) ⊎ (c .op ≡ 11)
+released-by m s c n = go (step m s c)
+  where
+    of-row : released m c ≡ freed-by (effect m c) m → Releases (c .op) (rel-of (effect m c)) → (c .op ≡ 5) ⊎ (c .op ≡ 8) ⊎ (c .op ≡ 11)
+    of-row f (nobody r) = absurd (n (f ∙ (freed-of (effect m c) m ∙ ap (λ (rel : Rel). front 0 (freed rel m)) r)))
+    of-row f (waking r) = inl r
+    of-row f (serving r q) = inr r
+
+    go : Step m c → (c .op ≡ 5) ⊎ (c .op ≡ 8) ⊎ (c .op ≡ 11)
+    go (kept e f w) = absurd (n f)
+    go (carried e f w g) = of-row f (releases m (c .op) (c .a) (c .b) (c .value))
 
 -- A started machine's bases stay, and a step changes what the runner holds and nobody else's.
 release-base : (rel : Rel) (m : Machine) → (release rel m .base ≡ m .base) × (release rel m .held ≡ m .held)

@@ -5,11 +5,12 @@ use Prim.Native.Nat.{ℕ, zero, suc, _-_, _≤_, _<_}
 use native.Mathlib.Omega.{arith}
 use mathlib.Core.Path.{_≡_, refl, sym, ap, _∙_}
 use mathlib.Core.Logic.{_≢_, _↔_, _⊎_}
-use mathlib.Core.Bool.{true}
-use mathlib.Core.List.{List}
-use lib.ListN.{replicate}
+use mathlib.Core.Bool.{true, cond}
+use mathlib.Core.List.{List, []}
+use lib.Dec.{eqb}
+use lib.ListN.{getD, replicate}
 use borrow.Author.Tests.{ne-eqb}
-use Rattle.rules.specs.Line.{at}
+use Rattle.rules.specs.Line.{at, front}
 use Rattle.rules.specs.Machine.{Machine, Command, fresh, runner, running}
 use Rattle.rules.specs.Refusals.{refusal}
 use Rattle.rules.specs.Sound.{sound}
@@ -20,8 +21,8 @@ use Rattle.rules.proofs.Sounds.{Sound, tests-sound, act-held}
 use Rattle.rules.proofs.Step.{next-sound, run-sound, fresh-test, fresh-sound}
 use Rattle.rules.proofs.Wakes.{a-wake, keeps-its-turn, at-wake, left-is-due, due-is-left, question-left, left-question, wakes-in-row, row-of-wakes, wake-takes-due}
 use Rattle.rules.proofs.Clear.{next-clear, run-clear, fresh-clear}
-use Rattle.rules.proofs.Release.{released-behind, released-based, lower-runs, first-moment}
-use Rattle.rules.proofs.Goes.{closed-holds-nothing}
+use Rattle.rules.proofs.Release.{released-behind, released-based, released-by, lower-runs, first-moment}
+use Rattle.rules.proofs.Goes.{closed-holds-nothing, closing-serves, served-waits-no-more, shut-keeps-waiters}
 
 -- ## Sound states
 -- The fresh machine is sound; a step from a sound state leaves a sound state: by `sound`, the test that a kernel makes of a state that comes in.
@@ -126,21 +127,47 @@ ahead-of-a-holder before =
     pairwise-map {P = λ x. Unit {0}} (λ a b u v w n. rw (act-held m b n) at (w n)) (m .ready) (all-every (λ x. tt) (m .ready)) (run-clear before fresh fresh-sound fresh-clear)
 
 -- An accepted closing (closep, closef, done) leaves the runner's hands empty: what the promise below calls "closed" is "no longer held".
--- Rules out: closings that do nothing, or that keep the object. Leaves: whom a closing releases (the op table, and Corners, rows).
+-- Rules out: closings that do nothing, or that keep the object. Leaves: whom a closing releases (below).
 pub closing-empties : (before : List Command) (c : Command) → let m = run fresh before in
     accepts m c ≡ true → (c .op ≡ 8) ⊎ (c .op ≡ 9) ⊎ (c .op ≡ 11) → at (next m c .held) (runner m) ≡ 0
 closing-empties before c ok op = closed-holds-nothing (run fresh before) (run-sound before fresh fresh-sound) c ok op
 
+-- ## Who is served
+-- An accepted closep or done with barrier 1 releases the task that waits on its object (0: none does), and nobody waits there any more; with
+-- barrier 0 it releases nobody, and who waits waits on. So no end of a body with an open barrier leaves a task waiting on its object:
+-- `done` looks at the waiter as closep does.
+-- Rules out: an entry's end that passes the waiter over, one that releases behind a shut barrier, a waiter that is named and not let go.
+-- Leaves: where the released task goes (Goes, served-to-tail); that anybody opens the barrier.
+pub open-serves : (before : List Command) (c : Command) → let m = run fresh before in
+    accepts m c ≡ true → (c .op ≡ 8) ⊎ (c .op ≡ 11) → c .b ≡ 1
+    → (released m c ≡ front 0 (getD (m .queue) (c .a) [])) × (getD (next m c .queue) (c .a) [] ≡ [])
+open-serves before c ok op e =
+    let m = run fresh before in
+    let s = run-sound before fresh fresh-sound in
+    (closing-serves m s c ok op ∙ ap (λ (b : ℕ). cond (eqb b 1) (front 0 (getD (m .queue) (c .a) [])) 0) e, served-waits-no-more m s c ok op e)
+
+pub shut-serves-nobody : (before : List Command) (c : Command) → let m = run fresh before in
+    accepts m c ≡ true → (c .op ≡ 8) ⊎ (c .op ≡ 11) → c .b ≡ 0 → (released m c ≡ 0) × (next m c .queue ≡ m .queue)
+shut-serves-nobody before c ok op e =
+    let m = run fresh before in
+    let s = run-sound before fresh fresh-sound in
+    (closing-serves m s c ok op ∙ ap (λ (b : ℕ). cond (eqb b 1) (front 0 (getD (m .queue) (c .a) [])) 0) e, shut-keeps-waiters m s c ok op e)
+
+-- Only a Wake, a closep or a done releases.
+-- Rules out: a release by any other command. Leaves: that these do, and whom (wake-releases-due and open-serves above).
+pub released-by-three : (before : List Command) (c : Command) → released (run fresh before) c ≢ 0 → (c .op ≡ 5) ⊎ (c .op ≡ 8) ⊎ (c .op ≡ 11)
+released-by-three before c n = released-by (run fresh before) (run-sound before fresh fresh-sound) c n
+
 -- ## The promise on releases
--- Whenever a command releases task t: there is one task `low` and one object such that, at every later moment at which t has not run yet
--- (the moment of the release among them), if a task of a base below t's runs, then it is `low`; it held that object at the release, and
--- has held it at every moment since, so it has closed it at none of the commands between.
+-- Whenever a command releases task t, be it a Wake, a closep or a done (released-by-three): there is one task `low` and one object such
+-- that, at every later moment at which t has not run yet (the moment of the release among them), if a task of a base below t's runs, then
+-- it is `low`; it held that object at the release, and has held it at every moment since, so it has closed it at none of the commands between.
 -- `low` and the object are found at the release, before any later command is known: so the tasks of lower base that run at any two such
 -- moments are one task. Equal base is not lower. Idle holds nothing, so it does not run: see below.
 -- Bases are those at the release: no command changes one after Start.
 -- Rules out: a closing runner that keeps its place, a second low task in between, a holder that loses its object unclosed.
--- Leaves: one that releases nobody (the op table and the walk); closings that do nothing (closing-empties above); ceilings without effect
--- (ahead-of-a-holder above, and Corners, rows); a released task in front of its equals (Goes, woken-to-tail).
+-- Leaves: one that releases nobody (open-serves above, and the walk); closings that do nothing (closing-empties above); ceilings without effect
+-- (ahead-of-a-holder above, and Corners, rows); a released task in front of its equals (Goes, woken-to-tail and served-to-tail).
 pub release-promise : (before : List Command) (c : Command) → let m = run fresh before in let now = next m c in let t = released m c in
     t ≢ 0 → (low : ℕ) × (object : ℕ) × ((after : List Command) → All (λ s. running s ≢ t) (moments now after)
     → let then = run now after in at (now .base) (running then) < at (now .base) t

@@ -21,7 +21,7 @@ use Rattle.rules.proofs.Words.{All, Pairwise, cmd, wakes, wakes-in, Due
 use Rattle.rules.proofs.Lists.{waits-fewer, one-self}
 use Rattle.rules.proofs.Sounds.{Sound, once, known, based}
 use Rattle.rules.proofs.Kept.{AllowedOut, release-sound}
-use Rattle.rules.proofs.Accepted.{Allowed}
+use Rattle.rules.proofs.Accepted.{Allowed, rel-of, not-due, Releases, nobody, waking, serving, releases}
 use Rattle.rules.proofs.Step.{Step, kept, carried, step, next-sound, run-sound, moved-started}
 
 -- The delay line: the entry at index r, and what placing a later entry leaves of it.
@@ -45,31 +45,13 @@ place-later d x (e ∷ l) (suc r) k h q =
     rw (le-ltb d (e .0) (omega arith)) (omega (arith, w .0), w .1)
 
 -- Only a Wake takes from the delay line.
-abbrev rel-of : Effect → Rel
-rel-of nothing = none
-rel-of (creates t p) = none
-rel-of (declares o p) = none
-rel-of begins = none
-rel-of (moves out rel n) = rel
-
-not-due : {A : Type 0} (b : Bool) (o : ℕ) → cond b (serve o) none ≡ due → A
-not-due true o e = let z : _≡_ {A = ℕ} 0 1 = cc in absurd (omega arith)
-not-due false o e = let z : _≡_ {A = ℕ} 0 1 = cc in absurd (omega arith)
-
 only-wake : (m : Machine) (op a b v : ℕ) → op ≢ 5 → rel-of (effect m (cmd op a b v)) ≡ due → ⊥
-only-wake m zero a b v n e = not-due false 0 e
-only-wake m (suc zero) a b v n e = not-due false 0 e
-only-wake m (suc (suc zero)) a b v n e = not-due false 0 e
-only-wake m (suc (suc (suc zero))) a b v n e = not-due false 0 e
-only-wake m (suc (suc (suc (suc zero)))) a b v n e = not-due false 0 e
-only-wake m (suc (suc (suc (suc (suc zero))))) a b v n e = n refl
-only-wake m (suc (suc (suc (suc (suc (suc zero)))))) a b v n e = not-due false 0 e
-only-wake m (suc (suc (suc (suc (suc (suc (suc zero))))))) a b v n e = not-due false 0 e
-only-wake m (suc (suc (suc (suc (suc (suc (suc (suc zero)))))))) a b v n e = not-due (eqb b 1) a e
-only-wake m (suc (suc (suc (suc (suc (suc (suc (suc (suc zero))))))))) a b v n e = not-due false 0 e
-only-wake m (suc (suc (suc (suc (suc (suc (suc (suc (suc (suc zero)))))))))) a b v n e = not-due false 0 e
-only-wake m (suc (suc (suc (suc (suc (suc (suc (suc (suc (suc (suc zero))))))))))) a b v n e = not-due false 0 e
-only-wake m (suc (suc (suc (suc (suc (suc (suc (suc (suc (suc (suc (suc op)))))))))))) a b v n e = not-due false 0 e
+only-wake m op a b v n e = go (releases m op a b v)
+  where
+    go : Releases op (rel-of (effect m (cmd op a b v))) → ⊥
+    go (nobody f) = not-due false 0 (sym f ∙ e)
+    go (waking f) = n f
+    go (serving f g) = g e
 
 -- Each part of a step that takes nothing from the delay line leaves t where it is.
 module _ (m : Machine) (t r : ℕ) (d : DueAt m t r) where

@@ -21,7 +21,7 @@ pub record Printed : Type 0 where
   pub released : ℕ
   pub clock : ℕ
 
-abbrev line : ℕ → ℕ → ℕ → ℕ → ℕ → ℕ → Printed
+abbrev pub line : ℕ → ℕ → ℕ → ℕ → ℕ → ℕ → Printed
 line n op code running released clock = record { n = n; op = op; code = code; running = running; released = released; clock = clock }
 
 abbrev pub lines : ℕ → Machine → List Command → List Printed

@@ -21,7 +21,11 @@ fits barrier n = leb n 1
 fits time n = ltb n (2 ^ 64)
 fits ticks n = true
 
--- The operands in use, of each op 1..11.
+-- the last op
+abbrev pub last-op : ℕ
+last-op = 11
+
+-- The operands in use, of each op.
 pub record Operands : Type 0 where
   pub a : Operand
   pub b : Operand
@@ -30,10 +34,9 @@ pub record Operands : Type 0 where
 abbrev uses : Operand → Operand → Operand → Operands
 uses a b value = record { a = a; b = b; value = value }
 
-abbrev pub operands : ℕ → Operands
-operands op =
-    getD
-    (uses unused unused unused ∷  -- no op
+abbrev pub operand-rows : List Operands
+operand-rows =
+    uses unused unused unused ∷  -- no op
     uses task priority unused ∷  -- 1 create
     uses object priority unused ∷  -- 2 object
     uses unused unused unused ∷  -- 3 start
@@ -44,12 +47,14 @@ operands op =
     uses object barrier unused ∷  -- 8 closep
     uses object unused unused ∷  -- 9 closef
     uses object barrier unused ∷  -- 10 entry
-    uses object unused unused ∷ [])  -- 11 done
-    op (uses unused unused unused)
+    uses object barrier unused ∷ []  -- 11 done (b is request 2's)
+
+abbrev pub operands : ℕ → Operands
+operands op = getD operand-rows op (uses unused unused unused)
 
 -- a known op, and each operand what it may be
 abbrev pub formed : Command → Bool
-formed c = let u = operands (c .op) in within 1 11 (c .op) && fits (u .a) (c .a) && fits (u .b) (c .b) && fits (u .value) (c .value)
+formed c = let u = operands (c .op) in within 1 last-op (c .op) && fits (u .a) (c .a) && fits (u .b) (c .b) && fits (u .value) (c .value)
 
 -- the runner holds the object, in that way
 abbrev pub holds-so : Machine → ℕ → ℕ → Bool
@@ -62,15 +67,15 @@ checks m c =
     -- (and, beyond the paper, a delay until 2^64 or later, which no caller of ours can ask for)
     (not (formed c), 4) ∷
     -- 2 Early: ops 4..11 [or a draw] before Start
-    (within 4 11 (c .op) && not (m .started), 2) ∷
+    (within 4 last-op (c .op) && not (m .started), 2) ∷
     -- 3 Late: ops 1..3 after Start
     (within 1 3 (c .op) && m .started, 3) ∷
     -- 5 Taken: task or object set up before
     (eqb (c .op) 1 && created m (c .a) || eqb (c .op) 2 && declared m (c .a), 5) ∷
     -- 6 Missing: object, [or task asked about,] not set up
-    (within 7 11 (c .op) && not (declared m (c .a)), 6) ∷
+    (within 7 last-op (c .op) && not (declared m (c .a)), 6) ∷
     -- 7 Idle: ops 4 and 7..11 while task 0 runs
-    ((eqb (c .op) 4 || within 7 11 (c .op)) && eqb (runner m) 0, 7) ∷
+    ((eqb (c .op) 4 || within 7 last-op (c .op)) && eqb (runner m) 0, 7) ∷
     -- 8 Inside: ops 4, 7, 10 while the runner holds an object
     (among (4 ∷ 7 ∷ 10 ∷ []) (c .op) && not (empty-handed m (runner m)), 8) ∷
     -- 9 Outside: closing an object the runner does not hold, or holds in the other way (8, 9 end an open; 11 ends an entry)

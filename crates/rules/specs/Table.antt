@@ -1,4 +1,4 @@
--- The op table of document 01: what each command does when it is accepted.
+-- The op table of document 01, with request 2's `done`: what each command does when it is accepted.
 -- A row says what is asked for, as an Effect; one function, carry, does it.
 use Prim.Native.Nat.{ℕ, _+_}
 use mathlib.Core.Bool.{Bool, true, cond, not, _&&_}
@@ -34,6 +34,15 @@ pub data Effect : Type 0 where
 abbrev pub first-due : Machine → Bool
 first-due m = not (empty (m .delay)) && leb (front (0, 0) (m .delay) .0) (m .clock)
 
+-- The barrier that a command gives is open: b is 1.
+abbrev pub opens : Command → Bool
+opens c = eqb (c .b) 1
+
+-- The end of a body with a barrier: if b is 1 and a task waits on the object, it goes to the tail of its base and is released;
+-- then the runner holds nothing and goes to the head of its base.
+abbrev pub closing : Command → Effect
+closing c = moves close (cond (opens c) (serve (c .a)) none) 0
+
 -- The table: a row for each op 1..11, and no other op has one.
 abbrev pub effect : Machine → Command → Effect
 effect m c =
@@ -56,14 +65,15 @@ effect m c =
     moves (take (c .a) for-open) none 0 ∷
     -- 8 closep a=object b=barrier: if b is 1 and a task waits on the object, it goes to the tail of its base and is released;
     -- then the runner holds nothing and goes to the head of its base
-    moves close (cond (eqb (c .b) 1) (serve (c .a)) none) 0 ∷
+    closing c ∷
     -- 9 closef a=object: the runner holds nothing and goes to the head of its base
     moves close none 0 ∷
     -- 10 entry a=object b=barrier: b 1: the runner holds it, for an entry, whoever waits.
     -- b 0: the runner leaves the line and waits on the object
     moves (cond (eqb (c .b) 1) (take (c .a) for-entry) (await (c .a))) none 0 ∷
-    -- 11 done a=object: ends an entry, as closef; a waiting task is not looked at
-    moves close none 0 ∷ [])
+    -- 11 done a=object b=barrier: ends an entry, and treats a waiter as closep does. (Request 2. In document 01 `done` had no barrier,
+    -- and a waiting task was not looked at; Ada 9.5.3 serves the queue after every protected action that may change a barrier.)
+    closing c ∷ [])
     (c .op) nothing
 
 -- The machine with other bases and ceilings, started or not; with other lines; with other objects held; and some ticks later.
@@ -99,7 +109,7 @@ release due m = with-lines m (enter m (freed due m) (m .ready)) (rest (m .delay)
 release (serve o) m = with-lines m (enter m (freed (serve o) m) (m .ready)) (m .delay) (set (m .queue) o (rest (getD (m .queue) o [])))
 
 -- Then the runner goes its way, and is placed by the active priorities that the tasks then have.
--- (It is the front of the line still: whom closep releases has a base of at most the ceiling. proofs/Accepted, runner-stays.)
+-- (It is the front of the line still: whom a closing releases has a base of at most the ceiling. proofs/Accepted, runner-stays.)
 unfoldable pub leave : Out → Machine → Machine
 leave same m = m
 leave (take o w) m = with-hands m (set (m .held) (runner m) o) (set (m .way) (runner m) w)

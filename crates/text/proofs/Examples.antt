@@ -13,19 +13,21 @@ use Rattle.text.specs.Lines.{ended, begins, lines}
 abbrev spoken : ℕ → ℕ → ℕ → ℕ → Spoken
 spoken op a b value = record { code = 0; op = op; a = a; b = b; value = value }
 
--- lines of the walk, and what has the form and is Range
+-- lines of the walk, and what has the form and is Range; done with its barrier
 right-lines : (command-of (bytes "create 1 3") ≡ spoken 1 1 3 0) × (command-of (bytes "start") ≡ spoken 3 0 0 0)
     × (command-of (bytes "delay 18446744073709551615") ≡ spoken 4 0 0 18446744073709551615) × (command-of (bytes "closep 1 1") ≡ spoken 8 1 1 0)
     × (command-of (bytes "create 255 3") ≡ spoken 1 255 3 0) × (command-of (bytes "entry 1 2") ≡ spoken 10 1 2 0)
+    × (command-of (bytes "done 1 0") ≡ spoken 11 1 0 0) × (command-of (bytes "done 1 1") ≡ spoken 11 1 1 0) × (command-of (bytes "done 1 2") ≡ spoken 11 1 2 0)
 unfolding command-of spoken-by op-named named-from same before onward operand decimal-next number-of shortest value-from
-right-lines = (refl, refl, refl, refl, refl, refl)
+right-lines = (refl, refl, refl, refl, refl, refl, refl, refl, refl)
 
--- what has not the form
+-- what has not the form: done without its barrier, too
 wrong-lines : (command-of [] ≡ no-command) × (command-of (bytes "start 0") ≡ no-command) × (command-of (bytes "open 01") ≡ no-command)
     × (command-of (bytes "open 256") ≡ no-command) × (command-of (bytes "delay 18446744073709551616") ≡ no-command) × (command-of (bytes "open  1") ≡ no-command)
     × (command-of (bytes "open 1 ") ≡ no-command) × (command-of (bytes " wake") ≡ no-command) × (command-of (bytes "wake\r") ≡ no-command) × (command-of (bytes "Wake") ≡ no-command)
+    × (command-of (bytes "done 1") ≡ no-command) × (command-of (bytes "done 1 0 0") ≡ no-command)
 unfolding command-of spoken-by op-named named-from same before onward operand decimal-next number-of shortest value-from
-wrong-lines = (refl, refl, refl, refl, refl, refl, refl, refl, refl, refl)
+wrong-lines = (refl, refl, refl, refl, refl, refl, refl, refl, refl, refl, refl, refl)
 
 -- "-1647531835" is refused; 2647435461 is its unsigned reading
 seeds : (seed-of (bytes "-1647531835") ≡ record { code = 17; seed = 0 }) × (seed-of (bytes "2647435461") ≡ record { code = 0; seed = 2647435461 })

@@ -1,6 +1,6 @@
 -- What is promised of text, each statement in plain words first. The functions' contracts are equations with the definitions named here, so
 -- each statement holds of what the functions answer. Assumes nothing.
-use Prim.Native.Nat.{ℕ, _≤_, _<_}
+use Prim.Native.Nat.{ℕ, suc, _≤_, _<_}
 use native.Mathlib.Omega.{arith}
 use mathlib.Core.Bool.{Bool, true, false, cond, _&&_}
 use mathlib.Core.Logic.{_↔_}
@@ -10,7 +10,7 @@ use borrow.Author.Tests.{eqb-true, eqb-false, le-leb, leb-true}
 use lib.Dec.{eqb, leb}
 use lib.ListN.{length}
 use Rattle.rules.specs.Line.{all-below, one-if, empty, every}
-use Rattle.rules.specs.Refusals.{Operand, operands, unused, task, object, priority, barrier, time, ticks}
+use Rattle.rules.specs.Refusals.{Operand, last-op, operands, unused, task, object, priority, barrier, time, ticks}
 use Rattle.rules.proofs.Tests.{both-true, tests-all-below, tests-and, tests-eq}
 use Rattle.text.specs.declared.command.Spoken.{Spoken}
 use Rattle.decimal.specs.Decimal.{digit, number-of, decimal}
@@ -136,11 +136,11 @@ in-use barrier = 1
 in-use time = 1
 in-use ticks = 1
 
-pub same-operands : (op : ℕ) → op < 12 → (in-use (operands op .a) ≡ one-if (uses-a op)) × ((in-use (operands op .b) ≡ one-if (uses-b op)) × (in-use (operands op .value) ≡ one-if (uses-value op)))
+pub same-operands : (op : ℕ) → op < suc last-op → (in-use (operands op .a) ≡ one-if (uses-a op)) × ((in-use (operands op .b) ≡ one-if (uses-b op)) × (in-use (operands op .value) ≡ one-if (uses-value op)))
 unfolding all-below
 same-operands op h =
     tests-all-below
     (λ n. tests-and (tests-eq (in-use (operands n .a)) (one-if (uses-a n)))
     (tests-and (tests-eq (in-use (operands n .b)) (one-if (uses-b n))) (tests-eq (in-use (operands n .value)) (one-if (uses-value n)))))
-    12
+    (suc last-op)
     .sure refl op h

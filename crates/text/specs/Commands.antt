@@ -31,7 +31,7 @@ abbrev pub uses-a : ℕ → Bool
 uses-a op = among (1 ∷ 2 ∷ 7 ∷ 8 ∷ 9 ∷ 10 ∷ 11 ∷ []) op
 
 abbrev pub uses-b : ℕ → Bool
-uses-b op = among (1 ∷ 2 ∷ 8 ∷ 10 ∷ []) op
+uses-b op = among (1 ∷ 2 ∷ 8 ∷ 10 ∷ 11 ∷ []) op
 
 abbrev pub uses-value : ℕ → Bool
 uses-value op = among (4 ∷ 6 ∷ []) op

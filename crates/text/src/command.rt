@@ -64,7 +64,7 @@ pub fn takes_a(op: u8) -> bool
 pub fn takes_b(op: u8) -> bool
     ensures { λ r. ⌜ r ≡ uses-b op ⌝ }
 {
-    (op == 1) | ((op == 2) | ((op == 8) | ((op == 10) | false)))
+    (op == 1) | ((op == 2) | ((op == 8) | ((op == 10) | ((op == 11) | false))))
 }
 
 pub fn takes_value(op: u8) -> bool

@@ -34,8 +34,8 @@ long-cell-requires : tie.Need-long-cell-requires
 long-cell-requires c κs = search needs
 
 -- each column, cell by cell
-seconds : (i x e y f : ℕ) → x ≡ y → e ≡ f → at (0 ∷ 0 ∷ 0 ∷ 0 ∷ x ∷ 0 ∷ e ∷ 0 ∷ []) i ≡ at (0 ∷ 0 ∷ 0 ∷ 0 ∷ y ∷ 0 ∷ f ∷ 0 ∷ []) i
-seconds i x e y f p q = ap (λ (n : ℕ). at (0 ∷ 0 ∷ 0 ∷ 0 ∷ n ∷ 0 ∷ e ∷ 0 ∷ []) i) p ∙ ap (λ (n : ℕ). at (0 ∷ 0 ∷ 0 ∷ 0 ∷ y ∷ 0 ∷ n ∷ 0 ∷ []) i) q
+seconds : (i x e y f : ℕ) → x ≡ y → e ≡ f → at (0 ∷ 0 ∷ 0 ∷ 0 ∷ x ∷ 0 ∷ e ∷ x ∷ []) i ≡ at (0 ∷ 0 ∷ 0 ∷ 0 ∷ y ∷ 0 ∷ f ∷ y ∷ []) i
+seconds i x e y f p q = ap (λ (n : ℕ). at (0 ∷ 0 ∷ 0 ∷ 0 ∷ n ∷ 0 ∷ e ∷ n ∷ []) i) p ∙ ap (λ (n : ℕ). at (0 ∷ 0 ∷ 0 ∷ 0 ∷ y ∷ 0 ∷ n ∷ y ∷ []) i) q
 
 values : (i x e y f : ℕ) → x ≡ y → e ≡ f → at (x ∷ 0 ∷ e ∷ 0 ∷ 0 ∷ 0 ∷ 0 ∷ 0 ∷ []) i ≡ at (y ∷ 0 ∷ f ∷ 0 ∷ 0 ∷ 0 ∷ 0 ∷ 0 ∷ []) i
 values i x e y f p q = ap (λ (n : ℕ). at (n ∷ 0 ∷ e ∷ 0 ∷ 0 ∷ 0 ∷ 0 ∷ 0 ∷ []) i) p ∙ ap (λ (n : ℕ). at (y ∷ 0 ∷ n ∷ 0 ∷ 0 ∷ 0 ∷ 0 ∷ 0 ∷ []) i) q

@@ -4,7 +4,7 @@ use mathlib.Core.Bool.{cond}
 use lib.Dec.{eqb, ltb}
 use borrow.Author.Tests.{lt-ltb, le-ltb, eq-eqb, ne-eqb}
 use Rattle.kernel.specs.Public.{said}
-use Rattle.kernel.specs.Step.{carriedOf, createdOf, declaredOf, begunOf, sleptOf, yieldedOf, wakeOf, advancedOf, heldOf, closepOf, closedOf, awaitingOf}
+use Rattle.kernel.specs.Step.{carriedOf, createdOf, declaredOf, begunOf, sleptOf, yieldedOf, wakeOf, advancedOf, heldOf, closingOf, closedOf, awaitingOf}
 use Rattle.kernel.proofs.Ends.{as-op}
 use Rattle.kernel.proofs.Loops.{other-op}
 use borrow.Author.Needs.{needs}
@@ -44,8 +44,8 @@ held-by-runner-requires-2 c κs = search needs
 awaiting-requires : tie.Need-awaiting-requires
 awaiting-requires c κs = search needs
 
-closed-requires-2 : tie.Need-closed-requires-2
-closed-requires-2 c κs = search needs
+closing-requires-2 : tie.Need-closing-requires-2
+closing-requires-2 c κs = search needs
 
 advanced-requires : tie.Need-advanced-requires
 advanced-requires c κs = search needs
@@ -112,14 +112,14 @@ returns-11 c =
 
 returns-12 : tie.Need-returns-12
 unfolding carriedOf
-returns-12 c = let a = c .before .before .args in c .closed2 .ensures ∙ as-op (a .self) (said (a .c)) 11 (c .before .match .keys10)
+returns-12 c = let a = c .before .before .args in c .closing2 .ensures ∙ as-op (a .self) (said (a .c)) 11 (c .before .match .keys10)
 
 returns-13 : tie.Need-returns-13
 unfolding carriedOf
 returns-13 c =
     let k = c .before .before .args .self in
     let d = c .before .before .args .c in
-    c .advanced .ensures ∙ (other-op (advancedOf k (d .value)) (createdOf k (d .a) (d .b)) (declaredOf k (d .a) (d .b)) (begunOf k) (cond (ltb (k .clock) (d .value)) (sleptOf k (d .value)) (yieldedOf k)) (wakeOf k) (heldOf k (d .a) 1) (closepOf k (d .a) (d .b)) (closedOf k 0) (cond (eqb (d .b) 1) (heldOf k (d .a) 2) (awaitingOf k (d .a))) (closedOf k 0) (d .op) (c .before .match .rest .0 .0 .0 .0 .0 .0 .0 .0 .0 .1) (c .before .match .rest .0 .0 .0 .0 .0 .0 .0 .0 .1) (c .before .match .rest .0 .0 .0 .0 .0 .0 .0 .1) (c .before .match .rest .0 .0 .0 .0 .0 .0 .1) (c .before .match .rest .0 .0 .0 .0 .0 .1) (c .before .match .rest .0 .0 .0 .0 .1) (c .before .match .rest .0 .0 .0 .1) (c .before .match .rest .0 .0 .1) (c .before .match .rest .0 .1) (c .before .match .rest .1))
+    c .advanced .ensures ∙ (other-op (advancedOf k (d .value)) (createdOf k (d .a) (d .b)) (declaredOf k (d .a) (d .b)) (begunOf k) (cond (ltb (k .clock) (d .value)) (sleptOf k (d .value)) (yieldedOf k)) (wakeOf k) (heldOf k (d .a) 1) (closingOf k (d .a) (d .b)) (closedOf k 0) (cond (eqb (d .b) 1) (heldOf k (d .a) 2) (awaitingOf k (d .a))) (closingOf k (d .a) (d .b)) (d .op) (c .before .match .rest .0 .0 .0 .0 .0 .0 .0 .0 .0 .1) (c .before .match .rest .0 .0 .0 .0 .0 .0 .0 .0 .1) (c .before .match .rest .0 .0 .0 .0 .0 .0 .0 .1) (c .before .match .rest .0 .0 .0 .0 .0 .0 .1) (c .before .match .rest .0 .0 .0 .0 .0 .1) (c .before .match .rest .0 .0 .0 .0 .1) (c .before .match .rest .0 .0 .0 .1) (c .before .match .rest .0 .0 .1) (c .before .match .rest .0 .1) (c .before .match .rest .1))
 
 pub carried-spec : {M : Type 1} → statement M
 carried-spec =
@@ -136,7 +136,7 @@ carried-spec =
     closed-requires
     held-by-runner-requires-2
     awaiting-requires
-    closed-requires-2
+    closing-requires-2
     advanced-requires
     returns
     returns-2
