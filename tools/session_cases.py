@@ -15,6 +15,8 @@ ROOT = pathlib.Path(__file__).resolve().parent.parent
 SECOND = ROOT / 'second' / 'bin'
 CRATE = ROOT / 'crates' / 'session_cases'
 CLOCK = 2**64 - 1
+# Where a decimal gets one digit more: each power of ten that 64 bits hold with its neighbours, 0, 9 and 10 among them; and the last number.
+EDGES = sorted({10**k + d for k in range(20) for d in (-1, 0, 1)} | {CLOCK})
 
 # Numbers of make_input. The first of each were chosen so that every refusal of every op that some input shows is among them; the others for variety.
 MADE = {
@@ -86,19 +88,28 @@ def first_lines():
     }
 
 
+SETUP = ('create 1 3', 'create 2 5', 'create 3 3', 'object 1 4', 'start')
+
+
 def draws():
-    setup = ('create 1 3', 'create 2 5', 'create 3 3', 'object 1 4', 'start')
-    yield text(first(count='1'), *setup)                                         # document 01's case
-    yield text(first(), *setup)[:-1]                                             # the start is the last line, without a line end
-    yield text(first(), *setup, 'create 4 1', 'advance 5')                       # behind an accepted start no line is read
-    yield text(first(), 'wake', '', 'creat 1 2', 'create 99 1', *setup)          # refused and malformed setup lines count
+    yield text(first(count='1'), *SETUP)                                         # document 01's case
+    yield text(first(), *SETUP)[:-1]                                             # the start is the last line, without a line end
+    yield text(first(), *SETUP, 'create 4 1', 'advance 5')                       # behind an accepted start no line is read
+    yield text(first(), 'wake', '', 'creat 1 2', 'create 99 1', *SETUP)          # refused and malformed setup lines count
     for lines in first_lines().values():
         for line in lines:
-            yield text(line, *setup)
+            yield text(line, *SETUP)
     # entries and their ends alone, with barriers of both kinds while a task waits
     yield text(first(seed='9', weights='0 1 0 0 0 0 100 100', count='30'), 'create 1 3', 'create 2 3', 'object 1 3', 'start')
     # the largest that is fair, and no start
     yield text(first(seed='4294967295', span='1000000', weights='100 100 100 100 100 100 100 100', count='100000'))
+
+
+def edges(kind):
+    """Every edge of the decimals: as walk's clock, and as a value of draw's, which is refused before the start and shown as given."""
+    if kind == 'walk':
+        return text('start', *(f'advance {b - a}' for a, b in zip(EDGES, EDGES[1:])))
+    return text(first(), *(f'delay {n}' for n in EDGES), *SETUP)
 
 
 # ---- What they reach
@@ -117,6 +128,7 @@ def reached(kind, given, printed):
         'a line over 4096 bytes': any(len(line) > 4096 for line in lines),
         '31 tasks': sum(row[1] == '1' and row[code] == '0' for row in rows) == 31,
         'the last tick': any(row[-1] == str(CLOCK) for row in rows),
+        'the edges of the decimals': {str(n) for n in EDGES} <= {row[-1 if kind == 'walk' else 4] for row in rows},
     }
     return {f'{kind}: {name}' for name in found} | {f'{kind}: {name}' for name, seen in tests.items() if seen}
 
@@ -126,7 +138,7 @@ def wanted():
                 9: (0, 2, 4, 6, 7, 9), 10: (0, 2, 4, 6, 7, 8, 10, 12), 11: (0, 2, 4, 6, 7, 9), 0: (14,)}
     names = {f'walk: op {op} code {code}' for op, codes in refusals.items() for code in codes}
     names |= {f'draw: op {op} code 0' for op in range(1, 12)} | {f'draw: op 0 code {code}' for code in (2, 14, 17, 18)}
-    both = ['op 5 releases', 'op 8 releases', 'op 11 releases', 'no input', 'no last line end', 'a line over 64 bytes', '31 tasks', 'byte 0', 'byte 13', 'byte 255']
+    both = ['op 5 releases', 'op 8 releases', 'op 11 releases', 'no input', 'no last line end', 'a line over 64 bytes', '31 tasks', 'byte 0', 'byte 13', 'byte 255', 'the edges of the decimals']
     return names | {f'{kind}: {name}' for kind in ('walk', 'draw') for name in both} | {'walk: a line over 4096 bytes', 'walk: the last tick'}
 
 
@@ -152,7 +164,7 @@ def made():
     test_first_lines()
     files, printed, seen = {}, {}, set()
     for kind, odd in (('walk', walks()), ('draw', draws())):
-        inputs = list(odd) + [run('make_input', kind, str(number)) for number in MADE[kind]]
+        inputs = list(odd) + [run('make_input', kind, str(number)) for number in MADE[kind]] + [edges(kind)]
         for i, given in enumerate(inputs):
             name = f'{i:02}.{kind}'
             files[CRATE / 'data' / name] = given

@@ -57,7 +57,7 @@ shortest-some (b ∷ w) e = omega arith
 -- ---- the decimal of n
 
 module _ (f n : ℕ) where
-  small-decimal : n < 10 → decimal-in (suc f) n ≡ (48 + n % 10) ∷ []
+  pub small-decimal : n < 10 → decimal-in (suc f) n ≡ (48 + n % 10) ∷ []
   unfolding decimal-in
   small-decimal h = rw (lt-ltb n 10 h)
 

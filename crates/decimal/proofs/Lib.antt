@@ -1,5 +1,6 @@
 pub mod Stores
-pub mod Turns
 pub mod BothWays
+pub mod Turns
+pub mod Powers
 pub mod Theorems
 pub mod Single

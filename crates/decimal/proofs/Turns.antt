@@ -1,5 +1,6 @@
 -- What a turn of each loop over digits does, over plain lists. Assumes nothing.
 use Prim.Native.Nat.{ℕ, zero, suc, _+_, _-_, _*_, _/_, _%_, _^_, _≤_, _<_}
+use native.Mathlib.Nat.{pow-suc, pow-succ', mul-assoc, one-le-pow, lt-of-mul-lt-mul-right}
 use native.Mathlib.Omega.{arith}
 use native.Mathlib.Numerals.{add-one}
 use mathlib.Core.Bool.{Bool, true, false, cond, not, _&&_, and-false}
@@ -13,8 +14,8 @@ use Rattle.rules.specs.Line.{every}
 use Rattle.rules.proofs.Tests.{both-true}
 use Rattle.decimal.specs.declared.Reading.{Reading}
 use Rattle.decimal.specs.Decimal.{digit, shortest, value-from, number-of, decimal, decimal-in}
-use Rattle.decimal.specs.Method.{digits-from, width-in, wider, last-digits}
-use Rattle.decimal.proofs.Stores.{sets-last}
+use Rattle.decimal.specs.Method.{digits-from, width-in, last-digits}
+use Rattle.decimal.proofs.BothWays.{small-decimal, decimal-most, digits-most}
 
 abbrev pub none : Reading
 none = record { fine = false; value = 0 }
@@ -103,34 +104,12 @@ number-law w most s r h es er =
 
 -- ---- printing
 
-pub wider-step : (most n : ℕ) → 10 ≤ n → wider (suc most) n ≡ suc (wider most (n / 10))
-unfolding wider width-in
-wider-step most n h = rw (le-ltb n 10 h)
+-- a turn of the count: the power is taken off once more, and not ten times
+pub one-more : (n power digit rest : ℕ) → n < 10 * power → n ≡ digit * power + rest → power ≤ rest → (n ≡ (digit + 1) * power + (rest - power)) × (digit + 1 < 10)
+one-more n power digit rest h e l = (omega arith, lt-of-mul-lt-mul-right power (omega arith))
 
-pub wider-small : (most n : ℕ) → n < 10 → wider most n ≡ 0
-unfolding wider
-wider-small most n h = rw (lt-ltb n 10 h)
-
-pub wider-none : (n : ℕ) → wider 0 n ≡ 0
-unfolding wider width-in
-wider-none n = go (ltb n 10)
-  where
-    go : (b : Bool) → _≡_ {A = ℕ} (cond b 0 0) 0
-    go true = refl
-    go false = refl
-
-pub width-wider : (most n : ℕ) → width-in (suc most) n ≡ suc (wider most n)
-unfolding wider width-in
-width-wider most n = refl
-
--- a turn of the loop that counts digits, and its two ends
-pub turn-wider : (k n : ℕ) → k < 20 → 10 ≤ n → k + 1 + wider (20 - (k + 1)) (n / 10) ≡ k + wider (20 - k) n
-turn-wider k n h t =
-    let e : 20 - k ≡ suc (20 - (k + 1)) = omega arith in
-    rw (e, wider-step (20 - (k + 1)) n t) (omega arith)
-
-pub all-wide : (k n : ℕ) → 20 ≤ k → wider (20 - k) n ≡ 0
-all-wide k n h = let e : 20 - k ≡ 0 = omega arith in rw e (wider-none n)
+pub next-power : (k : ℕ) → 0 < k → 10 ^ k ≡ 10 * 10 ^ (k - 1)
+next-power k h = let e : suc (k - 1) ≡ k = omega arith in ap (λ (j : ℕ). 10 ^ j) (sym e) ∙ pow-succ' 10 (k - 1)
 
 pub length-last-digits : (k n : ℕ) → length (last-digits k n) ≡ k
 unfolding last-digits
@@ -139,17 +118,30 @@ length-last-digits (suc k) n =
     let e : length (last-digits k (n / 10)) ≡ k = length-last-digits k (n / 10) in
     length-append (last-digits k (n / 10)) ((48 + n % 10) ∷ []) ∙ omega arith
 
--- a turn: the last digit is stored, and one digit fewer is left to store
-pub digit-stored : (out : List ℕ) (at k n : ℕ) → sets (set out (at + k) (48 + n % 10)) at (last-digits k (n / 10)) ≡ sets out at (last-digits (suc k) n)
+-- what was counted of the highest power is the first digit, and what is left has the others
+first-digit : (k d r : ℕ) → d < 10 → r < 10 ^ k → last-digits (suc k) (d * 10 ^ k + r) ≡ (48 + d) ∷ last-digits k r
 unfolding last-digits
-digit-stored out at k n =
-    rw (sets-last out at (last-digits k (n / 10)) (48 + n % 10), length-last-digits k (n / 10))
+first-digit zero d r h l =
+    let e : (d * 10 ^ 0 + r) % 10 ≡ d = omega arith in
+    ap (λ (x : ℕ). (48 + x) ∷ []) e
+first-digit (suc k) d r h l =
+    let n = d * 10 ^ suc k + r in
+    let e : 10 ^ suc k ≡ 10 ^ k * 10 = pow-suc 10 k in
+    let p : d * 10 ^ suc k ≡ d * 10 ^ k * 10 = ap (λ (x : ℕ). d * x) e ∙ sym (mul-assoc d (10 ^ k) 10) in
+    let q : n / 10 ≡ d * 10 ^ k + r / 10 = omega arith in
+    let t : n % 10 ≡ r % 10 = omega arith in
+    ap (λ (x : ℕ). last-digits (suc k) x ++ ((48 + n % 10) ∷ [])) q
+    ∙ ap (λ (x : ℕ). last-digits (suc k) (d * 10 ^ k + r / 10) ++ ((48 + x) ∷ [])) t
+    ∙ ap (λ (l : List ℕ). l ++ ((48 + r % 10) ∷ [])) (first-digit k d (r / 10) h (omega arith))
 
-pub digit-turn : (out : List ℕ) (at left n : ℕ) → 0 < left
-    → sets (set out (at + (left - 1)) (48 + n % 10)) at (last-digits (left - 1) (n / 10)) ≡ sets out at (last-digits left n)
-digit-turn out at left n h =
-    let e : suc (left - 1) ≡ left = omega arith in
-    digit-stored out at (left - 1) n ∙ ap (λ (k : ℕ). sets out at (last-digits k n)) e
+-- a turn: the first digit is stored, and those behind it are left to store
+pub digit-turn : (out : List ℕ) (place left n d r : ℕ) → 0 < left → n ≡ d * 10 ^ (left - 1) + r → r < 10 ^ (left - 1) → d < 10
+    → sets (set out place (48 + d)) (place + 1) (last-digits (left - 1) r) ≡ sets out place (last-digits left n)
+digit-turn out place left n d r h e l g =
+    let s : suc (left - 1) ≡ left = omega arith in
+    ap (λ (i : ℕ). sets (set out place (48 + d)) i (last-digits (left - 1) r)) (add-one place)
+    ∙ ap (λ (l : List ℕ). sets out place l)
+    (sym (first-digit (left - 1) d r g l) ∙ ap (λ (m : ℕ). last-digits (suc (left - 1)) m) (sym e) ∙ ap (λ (k : ℕ). last-digits k n) s)
 
 pub digits-stored : (out : List ℕ) (at left n : ℕ) → left ≤ 0 → sets out at (last-digits left n) ≡ out
 unfolding last-digits
@@ -168,6 +160,35 @@ decimal-digits (suc most) n = go (ltb n 10) (decimal-digits most (n / 10))
 pub length-decimal : (n : ℕ) → length (decimal n) ≡ width-in 20 n
 unfolding decimal
 length-decimal n = rw (decimal-digits 20 n) (length-last-digits (width-in 20 n) n)
+
+-- the loop that counts digits: one more where a number reaches the next power of ten, and no more where it does not
+pub wide-enough : (most k n : ℕ) → k < most → 10 ^ k ≤ n → k < width-in most n
+unfolding width-in
+wide-enough zero k n h l = absurd (omega arith)
+wide-enough (suc most) zero n h l = omega arith
+wide-enough (suc most) (suc k) n h l =
+    let e : 10 ^ suc k ≡ 10 ^ k * 10 = pow-suc 10 k in
+    let o : 1 ≤ 10 ^ k = one-le-pow k 10 (omega arith) in
+    rw (le-ltb n 10 (omega arith)) (omega (arith, wide-enough most k (n / 10) (omega arith) (omega arith)))
+
+pub narrow-enough : (k n : ℕ) → 1 ≤ k → n < 10 ^ k → width-in 20 n ≤ k
+narrow-enough zero n o h = absurd (omega arith)
+narrow-enough (suc k) n o h = omega (arith, length-decimal n, digits-most n k h)
+
+pub width-some : (most n : ℕ) → 1 ≤ width-in (suc most) n
+unfolding width-in
+width-some most n = omega arith
+
+pub width-most : (n : ℕ) → width-in 20 n ≤ 20
+width-most n = omega (arith, length-decimal n, decimal-most n)
+
+-- a number below ten is its own digit
+pub own-digit : (out : List ℕ) (at n : ℕ) → n < 10 → (at + 1 ≡ at + length (decimal n)) × (set out at (48 + n) ≡ sets out at (decimal n))
+unfolding decimal
+own-digit out at n h =
+    let e : n % 10 ≡ n = omega arith in
+    let d : decimal-in 20 n ≡ (48 + n) ∷ [] = small-decimal 19 n h ∙ ap (λ (x : ℕ). (48 + x) ∷ []) e in
+    (rw d, rw d)
 
 module _ (out : List ℕ) (at k n : ℕ) (e : k ≡ width-in 20 n) where
   pub decimal-stored : sets out at (last-digits k n) ≡ sets out at (decimal n)

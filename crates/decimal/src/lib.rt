@@ -1,10 +1,10 @@
 // Unsigned decimals without needless zeros: read from a word, printed into a buffer.
 ghost use mathlib.Core.Path.{_≡_};
-ghost use Prim.Native.Nat.{_+_, _≤_, _<_};
+ghost use Prim.Native.Nat.{_+_, _*_, _^_, _≤_, _<_};
 ghost use lib.ListN.{length};
 ghost use lib.Seq.{sets};
 ghost use Rattle.decimal.specs.Decimal.{digit, shortest, number-of, decimal};
-ghost use Rattle.decimal.specs.Method.{digits-from, width-in, last-digits};
+ghost use Rattle.decimal.specs.Method.{digits-from, width-in, last-digits, powers-of-ten};
 ghost use Rattle.decimal.specs.Buffer.{contents-after, place-after};
 
 // What a word reads as: a number, or (not fine, with 0) none.
@@ -87,30 +87,75 @@ pub fn number(word: &[u8], most: u64) -> Reading
     }
 }
 
-// How many digits n has.
-fn width(n: u64) -> usize
-    ensures { λ r. ⌜ (r ≡ width-in 20 n) × (r ≤ 20) ⌝ }
+// The powers of ten that 64 bits hold, from 10^0 on: no digit is found by a division. It is lent to those that use it: each use by name would make it anew.
+const POWERS: [u64; 20] = [
+    1,
+    10,
+    100,
+    1000,
+    10000,
+    100000,
+    1000000,
+    10000000,
+    100000000,
+    1000000000,
+    10000000000,
+    100000000000,
+    1000000000000,
+    10000000000000,
+    100000000000000,
+    1000000000000000,
+    10000000000000000,
+    100000000000000000,
+    1000000000000000000,
+    10000000000000000000,
+];
+
+// How many digits n has: one more for each power of ten that it reaches, from 10 on.
+fn width(n: u64, powers: &[u64]) -> usize
+    requires { ⌜ now powers ≡ powers-of-ten ⌝ }
+    ensures { λ r. ⌜ (r ≡ width-in 20 n) × (r ≤ 20) × (n < 10 ^ r) ⌝ }
 {
-    let mut rest = n;
     let mut k = 1;
-    while k < 20 && 10 <= rest {
-        rest = rest / 10;
+    while k < 20 && powers[k] <= n {
         k += 1;
     }
     k
 }
 
-// The last k digits of n, from the last to the first.
-fn put_digits(out: &mut [u8], at: usize, k: usize, n: u64)
-    requires { ⌜ at + k ≤ length (now out) ⌝ }
+// How often a power of ten was taken off a number, and what is left of it.
+struct Count {
+    digit: u8,
+    rest: u64,
+}
+
+fn counted(n: u64, power: u64) -> Count
+    requires { ⌜ n < 10 * power ⌝ }
+    ensures { λ r. ⌜ (n ≡ r .digit * power + r .rest) × (r .rest < power) × (r .digit < 10) ⌝ }
+{
+    let mut rest = n;
+    let mut digit = 0;
+    while power <= rest {
+        rest -= power;
+        digit += 1;
+    }
+    Count { digit, rest }
+}
+
+// The k digits of n, from the first to the last.
+fn put_digits(out: &mut [u8], at: usize, k: usize, n: u64, powers: &[u64])
+    requires { ⌜ (now powers ≡ powers-of-ten) × (at + k ≤ length (now out)) × (k ≤ 20) × (n < 10 ^ k) ⌝ }
     ensures { λ _. ⌜ now (out .exit) ≡ sets (now (out .entry)) at (last-digits k n) ⌝ }
 {
     let mut rest = n;
     let mut left = k;
+    let mut place = at;
     while 0 < left {
         left -= 1;
-        out[at + left] = 48 + (rest % 10) as u8;
-        rest = rest / 10;
+        let c = counted(rest, powers[left]);
+        out[place] = 48 + c.digit;
+        rest = c.rest;
+        place += 1;
     }
 }
 
@@ -124,7 +169,13 @@ pub fn put_decimal(out: &mut [u8], at: usize, n: u64) -> usize
     if out.len() - 20 < at {
         return at;
     }
-    let k = width(n);
-    put_digits(out, at, k, n);
+    // most numbers are their own digit
+    if n < 10 {
+        out[at] = 48 + n as u8;
+        return at + 1;
+    }
+    let powers = POWERS;
+    let k = width(n, &powers);
+    put_digits(out, at, k, n, &powers);
     at + k
 }

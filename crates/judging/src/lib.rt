@@ -91,7 +91,7 @@ fn refused_at(code: u8, place: usize) -> Verdict
 {
     Verdict::Refused(Refusal {
         code,
-        number: place / 16,
+        number: place >> 4,
         place,
     })
 }
@@ -142,7 +142,7 @@ impl Run {
         let stepped = kernel.untested(command);
         let rules = stepped.answer;
         if !same(tape, rules) {
-            let number = self.place / 16;
+            let number = self.place >> 4;
             return self.over(Verdict::Differs(Difference {
                 number,
                 command,
@@ -248,7 +248,7 @@ fn at_end(stage: Stage, place: usize, count: usize) -> Verdict
             if (place < 16) | (count != 0) {
                 return refused_at(15, place);
             }
-            let commands = place / 16 - 1;
+            let commands = (place >> 4) - 1;
             Verdict::Agrees(commands)
         }
     }

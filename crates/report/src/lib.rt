@@ -127,7 +127,7 @@ fn put_answer(out: &mut [u8], at: usize, x: Answer) -> usize
 fn place(number: usize) -> usize
     ensures { λ r. ⌜ r ≡ place-of number ⌝ }
 {
-    16 * (number % 1152921504606846976)
+    number << 4
 }
 
 fn put_where(out: &mut [u8], at: usize, number: usize, place: usize) -> usize

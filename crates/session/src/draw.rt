@@ -263,11 +263,17 @@ pub fn header(out: &mut [u8]) -> usize
     put_draw_header(out, 0)
 }
 
+// For so many lines, 2^56, no buffer has room; and the bytes of fewer fit 64 bits.
+const MANY: usize = 72057594037927936;
+
 // A piece of input. Where out has no room for a line for each byte of the piece and one more, nothing is done.
 pub fn feed(r: Reader, piece: &[u8], out: &mut [u8]) -> Read
     ensures { λ x. ⌜ (x ≡ draw.fed r (now (piece .entry)) (now (out .entry))) × (now (out .exit) ≡ draw.fed-out r (now (piece .entry)) (now (out .entry))) × In-front (x .at) (now (out .exit)) ⌝ }
 {
-    if out.len() / 192 <= piece.len() {
+    if MANY <= piece.len() {
+        return Read { reader: r, at: 0 };
+    }
+    if out.len() < 192 * (piece.len() + 1) {
         return Read { reader: r, at: 0 };
     }
     let mut d = r.draw;
@@ -329,7 +335,10 @@ pub fn finish(r: Reader, out: &mut [u8]) -> Drew
 pub fn draw_some(d: Draw, most: usize, out: &mut [u8]) -> Drew
     ensures { λ x. ⌜ (x ≡ draw.drew d most (now (out .entry))) × (now (out .exit) ≡ draw.drew-out d most (now (out .entry))) × In-front (x .at) (now (out .exit)) ⌝ }
 {
-    if out.len() / 192 < most {
+    if MANY <= most {
+        return Drew { draw: d, at: 0 };
+    }
+    if out.len() < 192 * most {
         return Drew { draw: d, at: 0 };
     }
     let mut next = d;

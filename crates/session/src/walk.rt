@@ -44,7 +44,7 @@ pub fn header(out: &mut [u8]) -> usize
 pub fn feed(w: Walk, piece: &[u8], out: &mut [u8]) -> Fed
     ensures { λ r. ⌜ (r ≡ walk.fed w (now (piece .entry)) (now (out .entry))) × (now (out .exit) ≡ walk.fed-out w (now (piece .entry)) (now (out .entry))) × walk.In-front (r .at) (now (out .exit)) ⌝ }
 {
-    if out.len() / 128 <= piece.len() {
+    if out.len() >> 7 <= piece.len() {
         return Fed { walk: w, at: 0 };
     }
     let mut kernel = w.kernel;

@@ -1,20 +1,21 @@
 -- `decimal::put_digits` meets its contract. The invariant: the buffer, with the digits that are left stored, is the buffer that is wanted. Assumes nothing.
-use Prim.Native.Nat.{_≤_}
+use Prim.Native.Nat.{_+_, _-_, _*_, _^_, _≤_, _<_}
 use native.Mathlib.Omega.{arith}
 use mathlib.Core.Path.{_≡_, sym, _∙_}
 use borrow.Author.Needs.{needs}
 use lib.ListN.{length-set, length}
 use lib.Seq.{sets}
 use Rattle.decimal.specs.Method.{last-digits}
-use Rattle.decimal.proofs.Turns.{digit-turn, digits-stored}
+use Rattle.decimal.proofs.Powers.{twenty, power-at}
+use Rattle.decimal.proofs.Turns.{next-power, digit-turn, digits-stored}
 use Rattle.decimal.proofs.put_digits.Statement.{statement}
 use Rattle.decimal.proofs.put_digits.Tie as tie
 
 abbrev Inv-loop : tie.InvT-loop
-Inv-loop out₀ at k n rest₀ left₀ out rest left = (left ≤ k) × (length out ≡ length out₀) × (sets out at (last-digits left rest) ≡ sets out₀ at (last-digits k n))
+Inv-loop out₀ at k n powers rest₀ left₀ place₀ out rest left place = (left ≤ k) × (place + left ≡ at + k) × (rest < 10 ^ left) × (length out ≡ length out₀) × (sets out place (last-digits left rest) ≡ sets out₀ at (last-digits k n))
 
 abbrev μ-loop : tie.MeasureT-loop
-μ-loop out₀ at k n rest₀ left₀ out rest left = left
+μ-loop out₀ at k n powers rest₀ left₀ place₀ out rest left place = left
 
 loop-holds : tie.Need-loop-holds Inv-loop μ-loop
 loop-holds c = search needs
@@ -22,29 +23,49 @@ loop-holds c = search needs
 sub-left : tie.Need-sub-left Inv-loop μ-loop
 sub-left c = search needs
 
-cast-out : tie.Need-cast-out Inv-loop μ-loop
-cast-out c = search needs
+mul-counted : tie.Need-mul-counted Inv-loop μ-loop
+mul-counted c = search needs
+
+shared-slice-read-counted : tie.Need-shared-slice-read-counted Inv-loop μ-loop
+shared-slice-read-counted c = let s = c .before .before .before .before .before in omega (arith, twenty (s .args .powers .now) (s .pre .0))
+
+counted-requires : tie.Need-counted-requires Inv-loop μ-loop
+counted-requires c κs =
+    let s = c .before .before .before .before .before in
+    let left = c .before .before .loop .left in
+    omega (arith, power-at (s .args .powers .now) (s .pre .0) (left - 1) (omega arith), next-power left (c .before .loop-test .taken))
 
 add-out : tie.Need-add-out Inv-loop μ-loop
 add-out c = search needs
 
-add-out-2 : tie.Need-add-out-2 Inv-loop μ-loop
-add-out-2 c = search needs
-
 slice-write-out : tie.Need-slice-write-out Inv-loop μ-loop
 slice-write-out c = search needs
+
+add-place : tie.Need-add-place Inv-loop μ-loop
+add-place c = search needs
 
 loop-less : tie.Need-loop-less Inv-loop μ-loop
 loop-less c = search needs
 
 loop-again : tie.Need-loop-again Inv-loop μ-loop
-loop-again c = let lp = c .before .loop in (omega arith, simp length-set (lp .inv .1), digit-turn (lp .out) (c .before .before .args .at) (lp .left) (lp .rest) (c .loop-test .taken) ∙ lp .inv .2)
+loop-again c =
+    let d = c .before .counted in
+    let lp = c .before .before .before .before .loop in
+    let s = c .before .before .before .before .before .before .before in
+    let p = power-at (s .args .powers .now) (s .pre .0) (lp .left - 1) (omega arith) in
+    let l = rw p at (d .ensures .1) in (
+      omega arith,
+      omega arith,
+      l,
+      simp length-set (lp .inv .3),
+      digit-turn (lp .out) (lp .place) (lp .left) (lp .rest) (d .result .digit) (d .result .rest) (c .before .before .before .loop-test .taken) (rw p at (d .ensures .0)) l (d .ensures .2) ∙ lp .inv .4,
+    )
 
 same-length : tie.Need-same-length Inv-loop μ-loop
 same-length c = search needs
 
 returns : tie.Need-returns Inv-loop μ-loop
-returns c = let lp = c .before .loop in sym (digits-stored (lp .out) (c .before .before .args .at) (lp .left) (lp .rest) (c .loop-test .left)) ∙ lp .inv .2
+returns c = let lp = c .before .loop in sym (digits-stored (lp .out) (lp .place) (lp .left) (lp .rest) (c .loop-test .left)) ∙ lp .inv .4
 
 pub put-digits-spec : {M : Type 1} → statement M
 put-digits-spec =
@@ -54,10 +75,12 @@ put-digits-spec =
     μ-loop
     loop-holds
     sub-left
-    cast-out
+    mul-counted
+    shared-slice-read-counted
+    counted-requires
     add-out
-    add-out-2
     slice-write-out
+    add-place
     loop-less
     loop-again
     same-length

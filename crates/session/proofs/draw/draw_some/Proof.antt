@@ -16,10 +16,16 @@ abbrev μ-loop : tie.MeasureT-loop
 returns : tie.Need-returns Inv-loop μ-loop
 returns c = let a = c .before .before .args in no-room-for (a .d) (a .most) (a .out .now) (omega (arith, c .if1 .taken))
 
+mul-if2 : tie.Need-mul-if2 Inv-loop μ-loop
+mul-if2 c = search needs
+
+returns-2 : tie.Need-returns-2 Inv-loop μ-loop
+returns-2 c = let a = c .before .before .before .args in no-room-for (a .d) (a .most) (a .out .now) (omega (arith, c .if2 .taken))
+
 loop-holds : tie.Need-loop-holds Inv-loop μ-loop
 loop-holds c =
-    let a = c .before .before .args in
-    let o : 192 * a .most ≤ length (a .out .now) = omega (arith, c .if1 .left) in
+    let a = c .before .before .before .args in
+    let o : 192 * a .most ≤ length (a .out .now) = omega (arith, c .if2 .left) in
     (going-first (a .d) (a .most) (a .out .now) o, o)
 
 draw-next-requires : tie.Need-draw-next-requires Inv-loop μ-loop
@@ -39,7 +45,7 @@ loop-again c =
     let put = c .before .before .put-shown in
     let drawn = c .before .before .before .before .before in
     let lp = drawn .before .before .loop in
-    let a = drawn .before .before .before .before .before .args in (
+    let a = drawn .before .before .before .before .before .before .args in (
       going-again (a .d) (a .most) (a .out .now) (lp .next) (lp .at) (lp .left) (lp .out) (lp .inv .0) (put .result) (drawn .draw-next .result) (put .last .0)
           (drawn .draw-next .ensures) (put .ensures .0) (put .ensures .1) (drawn .before .loop-test .taken),
       lp .inv .1,
@@ -48,10 +54,10 @@ loop-again c =
 same-length : tie.Need-same-length Inv-loop μ-loop
 same-length c = c .before .loop .inv .0 .filling .size
 
-returns-2 : tie.Need-returns-2 Inv-loop μ-loop
-returns-2 c =
+returns-3 : tie.Need-returns-3 Inv-loop μ-loop
+returns-3 c =
     let lp = c .before .loop in
-    let a = c .before .before .before .before .args in
+    let a = c .before .before .before .before .before .args in
     all-drawn (a .d) (a .most) (a .out .now) (lp .next) (lp .at) (lp .left) (lp .out) (lp .inv .0) (c .loop-test .left) (lp .inv .1)
 
 pub draw-some-spec : {M : Type 1} → statement M
@@ -61,6 +67,8 @@ draw-some-spec =
     Inv-loop
     μ-loop
     returns
+    mul-if2
+    returns-2
     loop-holds
     draw-next-requires
     put-shown-requires
@@ -68,4 +76,4 @@ draw-some-spec =
     loop-less
     loop-again
     same-length
-    returns-2)
+    returns-3)

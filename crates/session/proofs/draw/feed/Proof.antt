@@ -21,13 +21,24 @@ returns c =
     let a = c .before .before .before .args in
     no-room (a .r) (a .piece .now) (a .out .now) (omega (arith, c .if1 .taken))
 
+add-if2 : tie.Need-add-if2 Inv-loop μ-loop
+add-if2 c = search needs
+
+mul-if2 : tie.Need-mul-if2 Inv-loop μ-loop
+mul-if2 c = search needs
+
+returns-2 : tie.Need-returns-2 Inv-loop μ-loop
+returns-2 c =
+    let a = c .before .before .before .before .args in
+    no-room (a .r) (a .piece .now) (a .out .now) (omega (arith, c .if2 .taken))
+
 add-left : tie.Need-add-left Inv-loop μ-loop
 add-left c = search needs
 
 loop-holds : tie.Need-loop-holds Inv-loop μ-loop
 loop-holds c =
-    let a = c .before .before .before .before .before .args in
-    let o : 192 * suc (length (a .piece .now)) ≤ length (a .out .now) = omega (arith, c .before .before .if1 .left) in
+    let a = c .before .before .before .before .before .before .args in
+    let o : 192 * suc (length (a .piece .now)) ≤ length (a .out .now) = omega (arith, c .before .before .if2 .left) in
     (rw add-one (still-first (a .r) (a .piece .now) (a .out .now) o), o)
 
 next-line-requires : tie.Need-next-line-requires Inv-loop μ-loop
@@ -36,13 +47,13 @@ next-line-requires c κs = search needs
 same-length : tie.Need-same-length Inv-loop μ-loop
 same-length c = c .before .before .before .before .before .loop .inv .0 .filling .size
 
-returns-2 : tie.Need-returns-2 Inv-loop μ-loop
-returns-2 c =
+returns-3 : tie.Need-returns-3 Inv-loop μ-loop
+returns-3 c =
     let cut = c .before .before .before .next-line in
     let lp = c .before .before .before .before .before .loop in
-    let a = c .before .before .before .before .before .before .before .before .before .before .before .args in
+    let a = c .before .before .before .before .before .before .before .before .before .before .before .before .args in
     let o = c .before .before .before .before .loop-test .taken in
-    let n = not-true (cut .result .whole) (c .if2 .taken) in
+    let n = not-true (cut .result .whole) (c .if3 .taken) in
     all-heard (a .r) (a .piece .now) (a .out .now) (lp .d) (lp .held) (lp .from) (lp .at) (lp .left) (lp .out) (lp .inv .0) (cut .result .held)
     (cuts-part (lp .held) (a .piece .now) (lp .from) (cut .result) (cut .ensures) (lp .left) o n)
     (holds-part (lp .held) (a .piece .now) (lp .from) (cut .result) (cut .ensures) (lp .left) o n) (lp .inv .1)
@@ -68,20 +79,20 @@ loop-again c =
     let line = c .before .before .before .before .before .before in
     let cut = line .before .before .before .before .next-line in
     let lp = line .before .before .before .before .before .before .loop in
-    let a = line .before .before .before .before .before .before .before .before .before .before .before .before .args in (
+    let a = line .before .before .before .before .before .before .before .before .before .before .before .before .before .args in (
       still-again (a .r) (a .piece .now) (a .out .now) (lp .d) (lp .held) (lp .from) (lp .at) (lp .left) (lp .out) (lp .inv .0) (cut .result) (cut .ensures)
           (put .result) (line .hear .result) (put .last .0) (c .held-none .result) (line .hear .ensures) (put .ensures .0) (put .ensures .1) (c .held-none .ensures)
-          (line .before .before .before .before .before .loop-test .taken) (not-false (cut .result .whole) (line .before .if2 .left)),
+          (line .before .before .before .before .before .loop-test .taken) (not-false (cut .result .whole) (line .before .if3 .left)),
       lp .inv .1,
     )
 
 same-length-2 : tie.Need-same-length-2 Inv-loop μ-loop
 same-length-2 c = c .before .loop .inv .0 .filling .size
 
-returns-3 : tie.Need-returns-3 Inv-loop μ-loop
-returns-3 c =
+returns-4 : tie.Need-returns-4 Inv-loop μ-loop
+returns-4 c =
     let lp = c .before .loop in
-    let a = c .before .before .before .before .before .before .before .args in
+    let a = c .before .before .before .before .before .before .before .before .args in
     all-heard (a .r) (a .piece .now) (a .out .now) (lp .d) (lp .held) (lp .from) (lp .at) (lp .left) (lp .out) (lp .inv .0) (lp .held)
     (cuts-none (lp .held) (a .piece .now) (lp .from) (lp .left) (c .loop-test .left))
     (holds-none (lp .held) (a .piece .now) (lp .from) (lp .left) (c .loop-test .left)) (lp .inv .1)
@@ -93,11 +104,14 @@ feed-spec =
     Inv-loop
     μ-loop
     returns
+    add-if2
+    mul-if2
+    returns-2
     add-left
     loop-holds
     next-line-requires
     same-length
-    returns-2
+    returns-3
     hear-requires
     put-shown-requires
     held-none-requires
@@ -105,4 +119,4 @@ feed-spec =
     loop-less
     loop-again
     same-length-2
-    returns-3)
+    returns-4)
