@@ -24,6 +24,11 @@ if [ "$(uname -m)" = aarch64 ]; then
 fi
 mkdir -p "$out"
 
+# Both are proved first in one call, which takes crates that do not build on each other side by side.
+if ! (cd "$root" && rt check image judge_c) >"$out/check.log" 2>&1; then
+    tail "$out/check.log" >&2
+    fail "rt check image judge_c failed; the whole of what it said is in target/host/check.log"
+fi
 # library CRATE HEADER: builds it. The functions of the header are exported, and no other symbol is; and nothing is wanted of C but memory copies.
 library() {
     if ! (cd "$root" && rt staticlib "$1") >"$out/$1.log" 2>&1; then
