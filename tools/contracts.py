@@ -13,18 +13,10 @@ import pathlib
 import re
 import sys
 
+from braces import closing
+
 LONGEST = 40
 HEAD = re.compile(r'^[ \t]*(pub(?:\([a-z]+\))?[ \t]+)?(?:extern[ \t]+"C"[ \t]+)?fn[ \t]+(\w+)', re.M)
-
-
-def closing(text, start):
-    """The index behind the brace that closes the one at `start`."""
-    depth = 0
-    for i in range(start, len(text)):
-        depth += {'{': 1, '}': -1}.get(text[i], 0)
-        if depth == 0:
-            return i + 1
-    raise ValueError('a brace is not closed')
 
 
 def functions(path):

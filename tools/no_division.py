@@ -15,19 +15,11 @@ import re
 import subprocess
 import sys
 
+from braces import closing
+
 ROOT = pathlib.Path(__file__).resolve().parent.parent
 # From a number to its bytes, and whether there is room for them; in judging a record's number is found.
 PRINTING = ('decimal', 'text', 'session', 'judging', 'report', 'programs', 'walk', 'draw', 'judge')
-
-
-def closing(text, start):
-    """The index behind the brace that closes the one at `start`."""
-    depth = 0
-    for i in range(start, len(text)):
-        depth += {'{': 1, '}': -1}.get(text[i], 0)
-        if depth == 0:
-            return i + 1
-    raise ValueError('a brace is not closed')
 
 
 def code(path):
