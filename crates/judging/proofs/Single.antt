@@ -13,6 +13,7 @@ use Rattle.judging.proofs.Judge.fresh
 use Rattle.judging.proofs.Judge.feed
 use Rattle.judging.proofs.Judge.goes_on
 use Rattle.judging.proofs.Judge.end
+use Rattle.judging.proofs.status
 use Rattle.judging.proofs.judged
 
 module _ {M : Type 1} (𝓤 : URA M) (H : Heap 𝓤) (A : Atoms 𝓤) (mem : Memory → SProp 𝓤) (run : Routine → Fun 𝓤) where
@@ -27,6 +28,9 @@ module _ {M : Type 1} (𝓤 : URA M) (H : Heap 𝓤) (A : Atoms 𝓤) (mem : Mem
 
   pub end-single : OneAnswer 𝓤 end.ended (end.clauses 𝓤 H A mem run)
   end-single κs a g r s d e = one 𝓤 _ _ _
+
+  pub status-single : OneAnswer 𝓤 status.ended (status.clauses 𝓤 H A mem run)
+  status-single κs a g r s d e = one 𝓤 _ _ _
 
   pub judged-single : OneAnswer 𝓤 judged.ended (judged.clauses 𝓤 H A mem run)
   judged-single κs a g r s d e = one 𝓤 _ _ _

@@ -42,11 +42,25 @@ same x y = eqb (x .code) (y .code) && eqb (x .running .0) (y .running .0) && eqb
 abbrev pub difference : ℕ → Record → Answer → Verdict
 difference n r a = Differs (record { number = n; command = command-shown r; tape = shown (answer-on r); rules = a })
 
--- document 01's number for a verdict: a refusal's own, else 0. (The paper has none for a difference; the call from C has its own, 255.)
+-- The number of a verdict: 0 where the tape agrees, the paper's own where it is refused. (The paper has none for a difference: 255 is no refusal's, and is what the call from C answers.)
 abbrev pub number-of : Verdict → ℕ
 number-of (Agrees k) = 0
-number-of (Differs d) = 0
+number-of (Differs d) = 255
 number-of (Malformed e) = e .code
+
+-- And its values: how many command records there are; the record's number, place and command, with the answer on the tape and the rules'; the record's number and place.
+abbrev pub values-of : Verdict → List ℕ
+values-of (Agrees k) = k ∷ []
+values-of (Differs d) =
+    d .number ∷ 16 * d .number ∷ d .command .op ∷ d .command .a ∷ d .command .b ∷ d .command .value
+    ∷ d .tape .code ∷ d .tape .running .0 ∷ d .tape .released .0 ∷ d .rules .code ∷ d .rules .running .0 ∷ d .rules .released .0 ∷ []
+values-of (Malformed e) = e .number ∷ e .place ∷ []
+
+-- what the program judge ends with
+abbrev pub status-of : Verdict → ℕ
+status-of (Agrees k) = 0
+status-of (Differs d) = 1
+status-of (Malformed e) = 2
 
 -- What a reader answers from record n on, m being the machine before it: a refusal is reported with the record's number and place; at the end all
 -- records agreed, the header not counted; the header is record 0, and its seed is shown and not used; a command record agrees with the rules, which

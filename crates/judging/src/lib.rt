@@ -318,6 +318,17 @@ impl Judge {
     }
 }
 
+// What the program judge ends with: 0 agrees, 1 differs, 2 refused.
+pub fn status(v: Verdict) -> u8
+    ensures { λ r. ⌜ r ≡ verdict.status-of v ⌝ }
+{
+    match v {
+        Verdict::Agrees(_) => 0,
+        Verdict::Differs(_) => 1,
+        Verdict::Refused(_) => 2,
+    }
+}
+
 // The judgement of a whole tape.
 pub fn judged(tape: &[u8]) -> Judgement
     ensures { λ r. ⌜ r ≡ verdict.verdict-of (now (tape .entry)) ⌝ }
