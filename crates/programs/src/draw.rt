@@ -1,7 +1,22 @@
 // The program draw: reads its first line and setup lines, then draws commands, and prints a line for each.
+ghost use Prim.Native.Nat.{_≤_};
 ghost use mathlib.Core.Path.{_≡_};
-use crate::write;
+ghost use lib.ListN.{length};
+ghost use Rattle.session.specs.Walk.{In-front};
+ghost use Rattle.session.specs.Draw as draws;
+ghost use Rattle.programs.specs.Loops as loops;
+use crate::flow::Went;
+use crate::flow::goes_on;
+use crate::flow::going;
+use crate::flow::has_failed;
+use crate::flow::read_piece;
+use crate::flow::status;
+use crate::flow::write_whole;
+use crate::hint::hint_zeros;
+use crate::hint::hinted;
 use session::draw::Draw;
+use session::draw::Drew;
+use session::draw::Read;
 use session::draw::Reader;
 use session::draw::begin;
 use session::draw::draw_some;
@@ -9,86 +24,151 @@ use session::draw::feed;
 use session::draw::finish;
 use session::draw::header;
 
+// The draw behind what was read, how the work stands, and whether a hint was given.
 struct Turn {
     reader: Reader,
-    on: bool,
+    went: Went,
+    told: bool,
 }
 
-// Whether the draw still reads: it is at its first line or its setup lines.
-fn reads(d: Draw) -> bool {
-    d.stage < 2
+// The draw behind some draws, and how the work stands.
+struct Lots {
+    draw: Draw,
+    went: Went,
 }
 
-// One read, what is printed for it, one write. `out` has room for 192 bytes for each byte that is read, and 192 more.
-fn one_piece(fd: i32, r: Reader, out: &mut [u8]) -> Turn {
-    let mut piece = [0u8; 1024];
-    let got = libc::read(fd, &mut piece);
-    if got < 0 {
-        os::fail(b"input");
-        return Turn {
-            reader: r,
-            on: false,
-        };
-    }
-    if got == 0 {
-        return Turn {
-            reader: r,
-            on: false,
-        };
-    }
-    let n = io::count(got, &piece);
-    let f = feed(r, &piece[..n], out);
-    let at = f.at;
-    let done = write(&out[..at]);
-    let next = f.reader;
-    let on = done & reads(next.draw);
-    Turn { reader: next, on }
-}
-
-// Nothing says that the input ends, so the loop counts down from a number that no run uses up.
-fn all_pieces(fd: i32, r: Reader, out: &mut [u8]) -> Reader {
-    let mut turns = u64::MAX;
-    let mut reader = r;
-    let mut on = true;
-    while turns > 0 && on {
-        let t = one_piece(fd, reader, out);
-        reader = t.reader;
-        on = t.on;
-        turns -= 1;
-    }
-    reader
-}
-
-// The draws that are left, a thousand to a write.
-fn all_draws(d: Draw, out: &mut [u8]) {
-    let mut turns = u64::MAX;
-    let mut left = d;
-    let mut on = 0 < d.left;
-    while turns > 0 && on {
-        let f = draw_some(left, 1000, out);
-        let at = f.at;
-        let done = write(&out[..at]);
-        left = f.draw;
-        on = done & (0 < left.left);
-        turns -= 1;
-    }
-}
-
-fn draw_all(fd: i32, out: &mut [u8]) {
-    let head = header(out);
-    write(&out[..head]);
-    let r = all_pieces(fd, begin(), out);
-    let f = finish(r, out);
-    let at = f.at;
-    write(&out[..at]);
-    let d = f.draw;
-    all_draws(d, out);
-}
-
-// It answers nothing: what it reads and writes no contract can say; what it writes of the bytes read is session's.
-pub fn run(fd: i32)
-    ensures { λ r. ⌜ r ≡ tt ⌝ }
+// Whether the draw still reads: it is at its first line or its setup lines. A first line of over 128 bytes is refused whatever follows, so nothing
+// more is read of it.
+fn reads(r: Reader) -> bool
+    ensures { λ x. ⌜ x ≡ loops.draw-wants r ⌝ }
 {
-    let mut out = [0u8; 196800];
-    draw_all(fd, &mut out);
+    let d = r.draw;
+    let held = r.held;
+    (d.stage < 2) & !((d.stage == 0) & (129 <= held.count))
+}
+
+// Where out is the one that `run` lends, there is room for all that a piece prints; for the end of the input; and for a lot of draws.
+fn put_lines(r: Reader, piece: &[u8], out: &mut [u8]) -> Read
+    requires { ⌜ (length (now piece) ≤ loops.draw-piece) × (loops.draw-lent ≡ length (now out)) ⌝ }
+    ensures { λ x. ⌜ (x .reader ≡ draws.piece-behind r (now (piece .entry))) × (x .at ≡ length (draws.piece-text r (now (piece .entry)))) × In-front (x .at) (now (out .exit)) ⌝ }
+{
+    feed(r, piece, out)
+}
+
+fn put_end(r: Reader, out: &mut [u8]) -> Drew
+    requires { ⌜ loops.draw-lent ≡ length (now out) ⌝ }
+    ensures { λ x. ⌜ (x .draw ≡ draws.end-behind r) × (x .at ≡ length (draws.end-text r)) × In-front (x .at) (now (out .exit)) ⌝ }
+{
+    finish(r, out)
+}
+
+fn put_draws(d: Draw, out: &mut [u8]) -> Drew
+    requires { ⌜ loops.draw-lent ≡ length (now out) ⌝ }
+    ensures { λ x. ⌜ (x .draw ≡ draws.some-behind loops.draw-lot d) × (x .at ≡ length (draws.some-text loops.draw-lot d)) × In-front (x .at) (now (out .exit)) ⌝ }
+{
+    draw_some(d, 512, out)
+}
+
+// One read, what is printed for it, one write.
+fn one_piece(fd: i32, r: Reader, told: bool, out: &mut [u8]) -> Turn
+    requires { ⌜ loops.draw-lent ≡ length (now out) ⌝ }
+    ensures { λ x. ⌜ loops.Turned draws.piece-behind r (x .reader) (x .went .kind) ⌝ }
+{
+    let mut piece = [0u8; 512];
+    let got = read_piece(fd, &mut piece);
+    let n = got.count;
+    let came = got.went;
+    if !goes_on(came) {
+        return Turn {
+            reader: r,
+            went: came,
+            told,
+        };
+    }
+    let told = hinted(told, &piece[..n]);
+    let f = put_lines(r, &piece[..n], out);
+    let at = f.at;
+    let went = write_whole(&out[..at]);
+    let reader = f.reader;
+    Turn { reader, went, told }
+}
+
+// Nothing says that the input ends, so the turns are counted.
+fn all_pieces(fd: i32, headed: Went, out: &mut [u8]) -> Turn
+    requires { ⌜ loops.draw-lent ≡ length (now out) ⌝ }
+    ensures { λ x. ⌜ loops.Looped draws.piece-behind loops.draw-wants draws.at-first (x .reader) (x .went .kind) ⌝ }
+{
+    let mut turns = 0u64;
+    let mut reader = begin();
+    let mut went = headed;
+    let mut told = false;
+    while turns < u64::MAX && goes_on(went) && reads(reader) {
+        let t = one_piece(fd, reader, told, out);
+        reader = t.reader;
+        went = t.went;
+        told = t.told;
+        turns += 1;
+    }
+    Turn { reader, went, told }
+}
+
+// The draws that are left, a lot to a write.
+fn all_draws(d: Draw, out: &mut [u8]) -> Lots
+    requires { ⌜ loops.draw-lent ≡ length (now out) ⌝ }
+    ensures { λ x. ⌜ loops.Drawn d (x .draw) (x .went .kind) ⌝ }
+{
+    let mut turns = 0u64;
+    let mut draw = d;
+    let mut went = going();
+    while turns < u64::MAX && goes_on(went) && 0 < draw.left {
+        let f = put_draws(draw, out);
+        let at = f.at;
+        went = write_whole(&out[..at]);
+        draw = f.draw;
+        turns += 1;
+    }
+    Lots { draw, went }
+}
+
+// The end of the input, and the draws.
+fn finish_all(r: Reader, out: &mut [u8]) -> u8
+    requires { ⌜ loops.draw-lent ≡ length (now out) ⌝ }
+    ensures { λ x. ⌜ loops.Done-or-failed x ⌝ }
+{
+    let f = put_end(r, out);
+    let at = f.at;
+    let went = write_whole(&out[..at]);
+    if has_failed(went) {
+        return status(went);
+    }
+    let d = f.draw;
+    if d.stage == 3 {
+        hint_zeros();
+    }
+    let t = all_draws(d, out);
+    let drawn = t.went;
+    status(drawn)
+}
+
+fn draw_all(fd: i32, out: &mut [u8]) -> u8
+    requires { ⌜ loops.draw-lent ≡ length (now out) ⌝ }
+    ensures { λ x. ⌜ loops.Done-or-failed x ⌝ }
+{
+    let head = header(out);
+    let headed = write_whole(&out[..head]);
+    let t = all_pieces(fd, headed, out);
+    let read = t.went;
+    if has_failed(read) {
+        return status(read);
+    }
+    let reader = t.reader;
+    finish_all(reader, out)
+}
+
+// It answers its status. What it reads and writes no contract can say; what it writes of the bytes read is session's.
+pub fn run(fd: i32) -> u8
+    ensures { λ r. ⌜ loops.Done-or-failed r ⌝ }
+{
+    let mut out = [0u8; 98496];
+    draw_all(fd, &mut out)
 }

@@ -1,74 +1,79 @@
 // The program judge: reads a tape, and prints its seed and the verdict on it.
 ghost use mathlib.Core.Path.{_≡_};
-use crate::write;
+ghost use Rattle.judging.specs.Pieces.{at-first, fed};
+ghost use Rattle.programs.specs.Loops as loops;
+use crate::flow::Went;
+use crate::flow::goes_on;
+use crate::flow::going;
+use crate::flow::has_failed;
+use crate::flow::read_piece;
+use crate::flow::status;
+use crate::flow::write_whole;
 use judging::Judge;
 use judging::Judgement;
 use report::put_report;
 
-// The judge of what was read, whether there is more to read, and whether all reads went well.
+// The judge of what was read, and how the work stands.
 struct Turn {
     judge: Judge,
-    on: bool,
-    fine: bool,
+    went: Went,
 }
 
-// One read, and its records judged. Behind a verdict nothing more is read.
-fn one_piece(fd: i32, j: Judge) -> Turn {
+// One read, and its records judged.
+fn one_piece(fd: i32, j: Judge) -> Turn
+    ensures { λ r. ⌜ loops.Turned fed j (r .judge) (r .went .kind) ⌝ }
+{
     let mut piece = [0u8; 65536];
-    let got = libc::read(fd, &mut piece);
-    if got < 0 {
-        os::fail(b"input");
-        return Turn {
-            judge: j,
-            on: false,
-            fine: false,
-        };
+    let got = read_piece(fd, &mut piece);
+    let n = got.count;
+    let went = got.went;
+    if !goes_on(went) {
+        return Turn { judge: j, went };
     }
-    if got == 0 {
-        return Turn {
-            judge: j,
-            on: false,
-            fine: true,
-        };
-    }
-    let n = io::count(got, &piece);
     let judge = j.feed(&piece[..n]);
-    Turn {
-        judge,
-        on: judge.goes_on(),
-        fine: true,
-    }
+    Turn { judge, went }
 }
 
-// Nothing says that the input ends, so the loop counts down from a number that no run uses up.
-fn all_pieces(fd: i32) -> Turn {
-    let mut turns = u64::MAX;
-    let mut turn = Turn {
-        judge: Judge::fresh(),
-        on: true,
-        fine: true,
-    };
-    while turns > 0 && turn.on {
-        turn = one_piece(fd, turn.judge);
-        turns -= 1;
+// Behind a verdict nothing more is read. Nothing says that the input ends, so the turns are counted.
+fn all_pieces(fd: i32) -> Turn
+    ensures { λ r. ⌜ loops.Looped fed loops.judge-wants at-first (r .judge) (r .went .kind) ⌝ }
+{
+    let mut turns = 0u64;
+    let mut judge = Judge::fresh();
+    let mut went = going();
+    while turns < u64::MAX && goes_on(went) && judge.goes_on() {
+        let t = one_piece(fd, judge);
+        judge = t.judge;
+        went = t.went;
+        turns += 1;
     }
-    turn
+    Turn { judge, went }
 }
 
-fn tell(j: Judgement) {
+// The report, and the status: the verdict's, or 3 where it could not be written.
+fn tell(j: Judgement) -> u8
+    ensures { λ r. ⌜ loops.Told (j .verdict) r ⌝ }
+{
     let mut out = [0u8; 512];
     let n = put_report(&mut out, j);
-    write(&out[..n]);
+    let went = write_whole(&out[..n]);
+    if has_failed(went) {
+        return status(went);
+    }
+    let v = j.verdict;
+    judging::status(v)
 }
 
-// It answers nothing: what it reads and writes no contract can say; what it writes of the bytes read is judging's and report's. Where a read failed,
+// It answers its status. What it reads and writes no contract can say; what it writes of the bytes read is judging's and report's. Where a read failed,
 // the tape is not known, and nothing is said of it.
-pub fn run(fd: i32)
-    ensures { λ r. ⌜ r ≡ tt ⌝ }
+pub fn run(fd: i32) -> u8
+    ensures { λ r. ⌜ loops.Judged-or-failed r ⌝ }
 {
-    let turn = all_pieces(fd);
-    if turn.fine {
-        let judge = turn.judge;
-        tell(judge.end());
+    let t = all_pieces(fd);
+    let went = t.went;
+    if has_failed(went) {
+        return status(went);
     }
+    let judge = t.judge;
+    tell(judge.end())
 }

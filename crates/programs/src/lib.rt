@@ -1,9 +1,33 @@
 // The programs walk, draw and judge, over any descriptor: what is read there is handed to session, or to judging, and what is printed of it is written to
-// standard output.
+// standard output. Each answers its status: 0 where it did its work (judge: the tape agrees), 1 (judge) differs, 2 (judge) refused, 3 where a read or a
+// write failed. A failed read or write ends the work at once, and nothing is carried out or printed of what was not read.
+ghost use mathlib.Core.Path.{_≡_};
+ghost use Rattle.programs.specs.Loops as loops;
+
 pub mod draw;
+mod flow;
+mod hint;
 pub mod judge;
 pub mod walk;
 
-pub(crate) fn write(out: &[u8]) -> bool {
-    io::write_all(libc::STDOUT_FILENO, out)
+// For the C `main` of host/program.c: the language has no exit status.
+#[no_mangle]
+pub extern "C" fn rvn_program_walk() -> u32
+    ensures { λ r. ⌜ loops.Done-or-failed r ⌝ }
+{
+    walk::run(libc::STDIN_FILENO) as u32
+}
+
+#[no_mangle]
+pub extern "C" fn rvn_program_draw() -> u32
+    ensures { λ r. ⌜ loops.Done-or-failed r ⌝ }
+{
+    draw::run(libc::STDIN_FILENO) as u32
+}
+
+#[no_mangle]
+pub extern "C" fn rvn_program_judge() -> u32
+    ensures { λ r. ⌜ loops.Judged-or-failed r ⌝ }
+{
+    judge::run(libc::STDIN_FILENO) as u32
 }

@@ -1,62 +1,110 @@
 // The program walk: reads commands, one to a line, and prints a line for each.
+ghost use Prim.Native.Nat.{_≤_};
 ghost use mathlib.Core.Path.{_≡_};
-use crate::write;
+ghost use mathlib.Core.Bool.{true};
+ghost use lib.ListN.{length};
+ghost use Rattle.session.specs.Walk.{In-front, at-first, text-for, walk-after, last-text};
+ghost use Rattle.programs.specs.Loops as loops;
+use crate::flow::Went;
+use crate::flow::goes_on;
+use crate::flow::has_failed;
+use crate::flow::read_piece;
+use crate::flow::status;
+use crate::flow::write_whole;
+use crate::hint::hinted;
+use session::walk::Fed;
 use session::walk::Walk;
 use session::walk::begin;
 use session::walk::feed;
 use session::walk::finish;
 use session::walk::header;
 
+// The walk behind what was read, how the work stands, and whether a hint was given.
 struct Turn {
     walk: Walk,
-    on: bool,
+    went: Went,
+    told: bool,
 }
 
-// One read, what is printed for it, one write. `out` has room for 128 bytes for each byte that is read, and 128 more.
-fn one_piece(fd: i32, w: Walk, out: &mut [u8]) -> Turn {
-    let mut piece = [0u8; 4096];
-    let got = libc::read(fd, &mut piece);
-    if got < 0 {
-        os::fail(b"input");
-        return Turn { walk: w, on: false };
-    }
-    if got == 0 {
-        return Turn { walk: w, on: false };
-    }
-    let n = io::count(got, &piece);
-    let f = feed(w, &piece[..n], out);
-    let at = f.at;
-    let on = write(&out[..at]);
-    let next = f.walk;
-    Turn { walk: next, on }
-}
-
-// Nothing says that the input ends, so the loop counts down from a number that no run uses up.
-fn all_pieces(fd: i32, w: Walk, out: &mut [u8]) -> Walk {
-    let mut turns = u64::MAX;
-    let mut walk = w;
-    let mut on = true;
-    while turns > 0 && on {
-        let t = one_piece(fd, walk, out);
-        walk = t.walk;
-        on = t.on;
-        turns -= 1;
-    }
-    walk
-}
-
-fn walk_all(fd: i32, out: &mut [u8]) {
-    let head = header(out);
-    write(&out[..head]);
-    let w = all_pieces(fd, begin(), out);
-    let last = finish(w, out);
-    write(&out[..last]);
-}
-
-// It answers nothing: what it reads and writes no contract can say; what it writes of the bytes read is session's.
-pub fn run(fd: i32)
-    ensures { λ r. ⌜ r ≡ tt ⌝ }
+// Where out is the one that `run` lends, there is room for all that a piece prints; and for a last line.
+fn put_lines(w: Walk, piece: &[u8], out: &mut [u8]) -> Fed
+    requires { ⌜ (length (now piece) ≤ loops.walk-piece) × (loops.walk-lent ≡ length (now out)) ⌝ }
+    ensures { λ r. ⌜ (r .walk ≡ walk-after w (now (piece .entry))) × (r .at ≡ length (text-for w (now (piece .entry)))) × In-front (r .at) (now (out .exit)) ⌝ }
 {
-    let mut out = [0u8; 524416];
-    walk_all(fd, &mut out);
+    feed(w, piece, out)
+}
+
+fn put_last(w: Walk, out: &mut [u8]) -> usize
+    requires { ⌜ loops.walk-lent ≡ length (now out) ⌝ }
+    ensures { λ r. ⌜ (r ≡ length (last-text w)) × In-front r (now (out .exit)) ⌝ }
+{
+    finish(w, out)
+}
+
+// One read, what is printed for it, one write.
+fn one_piece(fd: i32, w: Walk, told: bool, out: &mut [u8]) -> Turn
+    requires { ⌜ loops.walk-lent ≡ length (now out) ⌝ }
+    ensures { λ r. ⌜ loops.Turned walk-after w (r .walk) (r .went .kind) ⌝ }
+{
+    let mut piece = [0u8; 768];
+    let got = read_piece(fd, &mut piece);
+    let n = got.count;
+    let came = got.went;
+    if !goes_on(came) {
+        return Turn {
+            walk: w,
+            went: came,
+            told,
+        };
+    }
+    let told = hinted(told, &piece[..n]);
+    let f = put_lines(w, &piece[..n], out);
+    let at = f.at;
+    let went = write_whole(&out[..at]);
+    let walk = f.walk;
+    Turn { walk, went, told }
+}
+
+// Nothing says that the input ends, so the turns are counted.
+fn all_pieces(fd: i32, headed: Went, out: &mut [u8]) -> Turn
+    requires { ⌜ loops.walk-lent ≡ length (now out) ⌝ }
+    ensures { λ r. ⌜ loops.Looped walk-after (λ w. true) at-first (r .walk) (r .went .kind) ⌝ }
+{
+    let mut turns = 0u64;
+    let mut walk = begin();
+    let mut went = headed;
+    let mut told = false;
+    while turns < u64::MAX && goes_on(went) {
+        let t = one_piece(fd, walk, told, out);
+        walk = t.walk;
+        went = t.went;
+        told = t.told;
+        turns += 1;
+    }
+    Turn { walk, went, told }
+}
+
+fn walk_all(fd: i32, out: &mut [u8]) -> u8
+    requires { ⌜ loops.walk-lent ≡ length (now out) ⌝ }
+    ensures { λ r. ⌜ loops.Done-or-failed r ⌝ }
+{
+    let head = header(out);
+    let headed = write_whole(&out[..head]);
+    let t = all_pieces(fd, headed, out);
+    let read = t.went;
+    if has_failed(read) {
+        return status(read);
+    }
+    let w = t.walk;
+    let last = put_last(w, out);
+    let went = write_whole(&out[..last]);
+    status(went)
+}
+
+// It answers its status. What it reads and writes no contract can say; what it writes of the bytes read is session's.
+pub fn run(fd: i32) -> u8
+    ensures { λ r. ⌜ loops.Done-or-failed r ⌝ }
+{
+    let mut out = [0u8; 98432];
+    walk_all(fd, &mut out)
 }

@@ -1,0 +1,133 @@
+// Reading and writing, for every program: what came of it, and how it is told where it failed.
+ghost use Prim.Native.Nat.{_≤_};
+ghost use mathlib.Core.Path.{_≡_};
+ghost use lib.Dec.{eqb, leb};
+ghost use lib.ListN.{length};
+ghost use Rattle.programs.specs.Loops as loops;
+
+// How the work stands: it goes on (0), a read gave nothing (1), a read failed (2), a write failed (3). The number is private: only this file gives
+// one, so no program can say that its input has ended where no read gave nothing.
+pub(crate) struct Went {
+    kind: u8,
+}
+
+// What a read brought: so many bytes, and how the work stands.
+pub(crate) struct Got {
+    pub count: usize,
+    pub went: Went,
+}
+
+// Nothing was read or written yet.
+pub(crate) fn going() -> Went
+    ensures { λ r. ⌜ r .kind ≡ 0 ⌝ }
+{
+    Went { kind: 0 }
+}
+
+pub(crate) fn goes_on(w: Went) -> bool
+    ensures { λ r. ⌜ r ≡ eqb (w .kind) 0 ⌝ }
+{
+    w.kind == 0
+}
+
+pub(crate) fn has_failed(w: Went) -> bool
+    ensures { λ r. ⌜ r ≡ leb 2 (w .kind) ⌝ }
+{
+    2 <= w.kind
+}
+
+// What a program answers: 0, or 3 where a read or a write failed.
+pub(crate) fn status(w: Went) -> u8
+    ensures { λ r. ⌜ r ≡ loops.status-of (w .kind) ⌝ }
+{
+    if 2 <= w.kind {
+        return 3;
+    }
+    0
+}
+
+// What one call of the system did: how many bytes it moved, and how the work stands behind it. 4: a signal ended the call before it moved a byte.
+struct Call {
+    count: usize,
+    kind: u8,
+}
+
+fn moved_none(kind: u8) -> Call
+    ensures { λ r. ⌜ (r .count ≡ 0) × (r .kind ≡ kind) ⌝ }
+{
+    Call { count: 0, kind }
+}
+
+fn read_once(fd: i32, piece: &mut [u8]) -> Call
+    ensures { λ r. ⌜ loops.Brought (now (piece .exit)) (r .count) (r .kind) ⌝ }
+{
+    let got = libc::read(fd, piece);
+    let count = io::count(got, piece);
+    if count > 0 {
+        return Call { count, kind: 0 };
+    }
+    if got == 0 {
+        return moved_none(1);
+    }
+    if os::errno() == libc::EINTR {
+        return moved_none(4);
+    }
+    os::fail(b"the input could not be read");
+    moved_none(2)
+}
+
+// One read into piece. A call that a signal ended is made again; nothing says that signals end, so the loop counts down from a number that no run uses up.
+pub(crate) fn read_piece(fd: i32, piece: &mut [u8]) -> Got
+    ensures { λ r. ⌜ loops.Brought (now (piece .exit)) (r .count) (r .went .kind) ⌝ }
+{
+    let mut turns = u64::MAX;
+    let first = read_once(fd, piece);
+    let mut count = first.count;
+    let mut kind = first.kind;
+    while turns > 0 && kind == 4 {
+        let again = read_once(fd, piece);
+        count = again.count;
+        kind = again.kind;
+        turns -= 1;
+    }
+    Got {
+        count,
+        went: Went { kind },
+    }
+}
+
+// A write that takes nothing has failed, too.
+fn write_once(out: &[u8]) -> Call
+    ensures { λ r. ⌜ r .count ≤ length (now (out .entry)) ⌝ }
+{
+    let put = libc::write(libc::STDOUT_FILENO, out);
+    let count = io::count(put, out);
+    if count > 0 {
+        return Call { count, kind: 0 };
+    }
+    if (put < 0) & (os::errno() == libc::EINTR) {
+        return moved_none(4);
+    }
+    os::fail(b"the output could not be written");
+    moved_none(3)
+}
+
+// All of out, in as many writes as it takes.
+pub(crate) fn write_whole(out: &[u8]) -> Went
+    ensures { λ r. ⌜ loops.Wrote (r .kind) ⌝ }
+{
+    let mut turns = u64::MAX;
+    let mut at = 0;
+    while turns > 0 && at < out.len() {
+        let put = write_once(&out[at..]);
+        if put.kind == 3 {
+            return Went { kind: 3 };
+        }
+        at += put.count;
+        turns -= 1;
+    }
+    if at < out.len() {
+        return Went { kind: 3 };
+    }
+    Went { kind: 0 }
+}

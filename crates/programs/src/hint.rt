@@ -1,0 +1,35 @@
+// Hints for people, on standard error: what is printed on standard output is fixed.
+
+fn has_return(piece: &[u8]) -> bool {
+    let mut i = 0;
+    while i < piece.len() {
+        if piece[i] == 13 {
+            return true;
+        }
+        i += 1;
+    }
+    false
+}
+
+// Said once: a script from a machine that ends its lines with 13 and 10 is refused line by line, and no number says why.
+pub(crate) fn hinted(told: bool, piece: &[u8]) -> bool {
+    if told {
+        return true;
+    }
+    if !has_return(piece) {
+        return false;
+    }
+    io::write_all(
+        libc::STDERR_FILENO,
+        b"hint: a byte 13 (carriage return) stands in the input. A line ends in byte 10 alone, and one with a 13 in it is refused with 14. Take the 13s out, as by: tr -d '\\r' <FILE\n",
+    );
+    true
+}
+
+// Why a draw printed a line of zeros, and nothing was drawn.
+pub(crate) fn hint_zeros() {
+    io::write_all(
+        libc::STDERR_FILENO,
+        b"hint: nothing was drawn, and the last line's code says why.\n14: the first line is not `seed S span N weights W W W W W W W W count K` (single blanks, decimals without needless zeros, K 1..100000, at most 128 bytes).\n17: S is not 1..4294967295.\n18: N is not 1..1000000, a weight is above 100, or the second one, wake's, is 0.\n2: the input ended before an accepted start.\n",
+    );
+}
