@@ -1,5 +1,6 @@
 -- Commands by their words, the state behind them, and the one shape of the computed tables: a row has what is asked and the numbers that it is to
--- give, and a table holds where no row gives others. (Where one does, the check shows that row with the numbers that it gives.) Assumes nothing.
+-- give, and a table holds where no row gives others. (Of a short table the check shows a row that does, with what it gives; a long one, that the check
+-- will not print, has to be halved to find it.) Assumes nothing.
 use Prim.Native.Nat.{ℕ}
 use mathlib.Core.Bool.{Bool, true, false, cond, _&&_}
 use mathlib.Core.List.{List, [], _∷_}
