@@ -16,22 +16,24 @@ forged =
     let m = low ▸ advance 5 in
     with-hands (with-lines m (21 ∷ 23 ∷ 0 ∷ []) (m .delay) (set (m .queue) 2 (24 ∷ []))) (set (m .held) 23 2) (set (m .way) 23 1)
 
--- The nine states, the columns of the table. (`queued` has two waiters, and in `idle` they wait still.)
-abbrev pub queued : Machine
+-- 22 and 21 wait, and 23 runs
+abbrev queued : Machine
 queued = on ▸ entry 7 0 ▸ entry 6 0
 
-abbrev pub columns : List Machine
+-- The nine states, the columns of the table.
+abbrev columns : List Machine
 columns =
     fresh ∷  -- bare
     made ∷  -- made: before Start
     on ∷  -- on: 22 runs, and holds nothing
-    on ▸ open′ 7 ∷  -- opened: 22 holds object 7, for a procedure or function
-    on ▸ entry 7 1 ∷  -- entered: 22 holds object 7, for an entry
+    queued ▸ open′ 7 ∷  -- opened: 23 runs and holds object 7, for a procedure or function; 22 waits there, and 21 on 6
+    on ▸ entry 7 1 ∷  -- entered: 22 runs and holds object 7, for an entry
     on ▸ delay 9 ▸ entry 6 0 ▸ open′ 2 ▸ advance 9 ▸ wake ∷  -- above: 22 runs, of a base above the ceiling of 6, where 21 waits, and of 2, which 23 holds
     queued ∷  -- queued: 23 runs; 22 waits on 7, and 21 on 6
-    queued ▸ delay 9 ▸ delay 9 ∷  -- idle: and then idle runs
+    queued ▸ delay 9 ▸ delay 9 ∷  -- idle: and then 23 and 24 sleep, and idle runs
     forged ∷ []
 
+-- the number that each state gives; and a row: what is asked, with the code that it is to get in each of the nine states
 abbrev in-each : {A : Type 0} → (Machine → A → ℕ) → List Machine → A → List ℕ
 in-each f [] x = []
 in-each f (m ∷ l) x = f m x ∷ in-each f l x
@@ -43,6 +45,7 @@ row x bare made on opened entered above queued idle forged = (x, bare ∷ made �
 abbrev range : Command → Command × List ℕ
 range c = row c 4 4 4 4 4 4 4 4 4
 
+-- bare made on opened entered above queued idle forged: before Start all of 4..11 are 2, after it all of 1..3 are 3
 abbrev table : List (Command × List ℕ)
 table =
     -- no op
@@ -98,7 +101,7 @@ table =
     row (closef 2) 2 2 9 9 9 9 9 7 9 ∷
     row (closef 5) 2 2 6 6 6 6 6 6 6 ∷
     range (closef 0) ∷ range (closef 8) ∷ range (cmd 9 7 1 0) ∷ range (cmd 9 7 0 1) ∷
-    -- 10 entry: as open, whatever the barrier; with barrier 0 also 12, behind 7, 8, 10 and 11
+    -- 10 entry: as open, whatever the barrier; with barrier 0 also 12 where one waits, behind 7, 8, 10 and 11
     row (entry 1 0) 2 2 0 8 8 0 0 7 0 ∷
     row (entry 7 0) 2 2 0 8 8 0 12 7 0 ∷
     row (entry 7 1) 2 2 0 8 8 0 0 7 0 ∷
