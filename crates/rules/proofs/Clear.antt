@@ -1,6 +1,6 @@
 -- The invariant behind the promise on releases: where a task holds an object, every task ahead of it in the ready line has a base above
 -- its ceiling. Every step from a sound state keeps it, so it holds along every run from the fresh machine. It does not follow from
--- soundness: two low tasks may hold objects of one high ceiling in a forged state, and both run before a task between. Assumes nothing.
+-- soundness: two low tasks may hold objects of one high ceiling in a forged state, and both run before a task between (Saved, two-holders). Assumes nothing.
 use Prim.Native.Nat.{ℕ, suc, _≤_, _<_}
 use native.Mathlib.Omega.{arith}
 use mathlib.Core.Path.{_≡_}

@@ -1,6 +1,6 @@
 -- Where each part of `carry` puts a task, in the paper's words: the law of placing (Placing.antt), told of the step itself; what a
 -- closing runner holds, and whom it releases. Rules out: the head of a base for the tail and the other way round, a tie in the wrong order.
--- Leaves: which part another row of the op table has (Table.antt, Walk and Corners).
+-- Leaves: which part another row of the op table has (Table.antt; Corners, rows).
 -- `Split P Q t before after`: the line before is some tasks with P and then some with Q; after, t stands between them. Assumes nothing.
 use Prim.Native.Nat.{ℕ, suc, _≤_, _<_}
 use native.Mathlib.Omega.{arith}

@@ -1,5 +1,8 @@
 pub mod Walk
+pub mod Script
+pub mod Limits
 pub mod Corners
+pub mod Saved
 pub mod Words
 pub mod Lists
 pub mod Tests

@@ -27,7 +27,7 @@ use Rattle.rules.proofs.Goes.{closed-holds-nothing, closing-serves, ser
 -- ## Sound states
 -- The fresh machine is sound; a step from a sound state leaves a sound state: by `sound`, the test that a kernel makes of a state that comes in.
 -- Rules out: a place given to a task twice or to none, a holder that is put to sleep, a line out of order, a clock past its end.
--- Leaves: a machine that refuses all, or does nothing (the op table, Table.antt, and the walk); and a test that is too weak (Corners, unsound).
+-- Leaves: a machine that refuses all, or does nothing (the op table, Table.antt, and the walk); and a test that is too weak (Saved, unsound).
 pub fresh-is-sound : sound fresh ≡ true
 fresh-is-sound = fresh-test
 
@@ -38,7 +38,7 @@ pub run-is-sound : (cs : List Command) → sound (run fresh cs) ≡ true
 run-is-sound cs = tests-sound (run fresh cs) .found (run-sound cs fresh fresh-sound)
 
 -- A refused command keeps the state, and its answer releases nobody.
--- Rules out: a refusal that ticks, or moves a task. Leaves: which commands are refused (Refusals.antt, Walk and Corners).
+-- Rules out: a refusal that ticks, or moves a task. Leaves: which commands are refused (Refusals.antt; Limits, limits).
 pub refused-changes-nothing : (m : Machine) (c : Command) → refusal m c ≢ 0 → (next m c ≡ m) × (answer m c .running ≡ running m) × (answer m c .released ≡ 0)
 unfolding next released answer
 refused-changes-nothing m c n = rw (ne-eqb (refusal m c) 0 n) (refl, refl, refl)
@@ -48,7 +48,7 @@ refused-changes-nothing m c n = rw (ne-eqb (refusal m c) 0 n) (refl, refl, refl)
 -- there are at most r of them, t stays in the line, at index r less their count, and no answer releases it; and the (r+1)th of them does.
 -- Rules out: a past delay at the front of the line, a Wake that skips or drops an entry, a machine that works once and then pretends.
 -- Leaves: one that refuses every Wake (wakes-left-seen below rules it out); ties in the wrong order, which only become due so (Placing,
--- time-splits, and Walk, slips); and one in which nobody sleeps (the walk).
+-- time-splits, and Corners, rows); and one in which nobody sleeps (the walk).
 -- It holds of every sound state, so of a saved one too; the fresh machine is the case that the promise is about.
 pub wakes-promise-sound : (m : Machine) (after : List Command) (t r : ℕ) → sound m ≡ true → DueAt m t r → wakes-in m after ≤ r
     → DueAt (run m after) t (r - wakes-in m after) × All (λ a. a .released ≢ t) (answers m after)
@@ -74,7 +74,7 @@ wakes-promise-kept before after t r c d k w = wakes-promise-sound-kept (run fres
 
 -- "Wakes left" is that count: its answer r + 1 says that t is due at index r, and so that the (r+1)th accepted Wake releases it; its answer
 -- 0, that t is due at none. `question` is the answer as it is given, checks and all.
--- Rules out: a count that is one too high or too low, a made-up number. Leaves: the code of a refused question (Corners, wakes-left-answers).
+-- Rules out: a count that is one too high or too low, a made-up number. Leaves: the code of a refused question (Limits, question-limits).
 pub wakes-left-says : (before : List Command) (t r : ℕ) → let m = run fresh before in (wakes-left m t ≡ suc r) ↔ DueAt m t r
 wakes-left-says before t r = let s = run-sound before fresh fresh-sound in (left-is-due (run fresh before) s t r, due-is-left (run fresh before) s t r)
 
@@ -109,7 +109,7 @@ wake-releases-due before c w n = wake-takes-due (run fresh before) (run-sound be
 
 -- ## The invariant
 -- Where a task holds an object of ceiling c, every task ahead of it in the ready line has a base above c.
--- It is not true of every sound state (Walk's `saved` is sound, and it fails there), but every step keeps it.
+-- It is not true of every sound state (Saved's `two-holders` and Limits' `forged` are sound, and it fails there), but every step keeps it.
 -- Rules out: a released task in front of a holder whose ceiling is its base; a ceiling that bars nobody.
 -- Leaves: who stands behind a holder (the ready line's order, `sound`).
 pub fresh-is-clear : Clear fresh
@@ -127,7 +127,8 @@ ahead-of-a-holder before =
     pairwise-map {P = λ x. Unit {0}} (λ a b u v w n. rw (act-held m b n) at (w n)) (m .ready) (all-every (λ x. tt) (m .ready)) (run-clear before fresh fresh-sound fresh-clear)
 
 -- An accepted closing (closep, closef, done) leaves the runner's hands empty: what the promise below calls "closed" is "no longer held".
--- Rules out: closings that do nothing, or that keep the object. Leaves: whom a closing releases (below).
+-- Rules out: closings that do nothing, or that keep the object. Leaves: whom a closing releases (below); a machine that accepts none, as one that never
+-- starts (the walk).
 pub closing-empties : (before : List Command) (c : Command) → let m = run fresh before in
     accepts m c ≡ true → (c .op ≡ 8) ⊎ (c .op ≡ 9) ⊎ (c .op ≡ 11) → at (next m c .held) (runner m) ≡ 0
 closing-empties before c ok op = closed-holds-nothing (run fresh before) (run-sound before fresh fresh-sound) c ok op
@@ -165,6 +166,7 @@ released-by-three before c n = released-by (run fresh before) (run-sound before 
 -- `low` and the object are found at the release, before any later command is known: so the tasks of lower base that run at any two such
 -- moments are one task. Equal base is not lower. Idle holds nothing, so it does not run: see below.
 -- Bases are those at the release: no command changes one after Start.
+-- It is not true from every sound state (Saved: two-lower-tasks, not-of-every-sound-state).
 -- Rules out: a closing runner that keeps its place, a second low task in between, a holder that loses its object unclosed.
 -- Leaves: one that releases nobody (open-serves above, and the walk); closings that do nothing (closing-empties above); ceilings without effect
 -- (ahead-of-a-holder above, and Corners, rows); a released task in front of its equals (Goes, woken-to-tail and served-to-tail).
