@@ -215,6 +215,8 @@ def main():
             print(n, *(x for k in '1234' for x in copy.deepcopy(kept[k]).step(*map(int, rest))))
         elif word in ('put', 'spoil'):
             hand.put(rest[0], int(rest[1]), int(rest[2]))
+        elif word not in ('#', ''):
+            sys.exit(f'stdin, line {n}: {word} is no word of the table')
         if word == 'spoil':
             if hand.faults() != set(rest[3].split('+')) - {'sound'}:
                 sys.exit(f'stdin, line {n}: the state breaks {sorted(hand.faults())}')

@@ -1,16 +1,18 @@
-// Cases of the step and of the test of a saved state: a table on standard input, in the file stdin. A line is a word and what it is about:
+// Cases of the step and of the test of a saved state: a table on standard input, in the file stdin. A line of it is
 //
 //   fresh                the machine at hand is the fresh one
-//   do OP A B VALUE      a command to the machine at hand; printed are code, running, released, the clock, and 1 if the state is as it was, else 0
-//   ask TASK             "Wakes left" of the machine at hand; printed are code and count
+//   do OP A B VALUE      a command to the machine at hand: it prints code, running, released, the clock, and 1 if the
+//                        state is as it was, else 0
+//   ask TASK             "Wakes left" of the machine at hand: it prints code and count
 //   keep N, take N       the machine at hand is kept as N, 1..4; a kept one is at hand again
-//   each OP A B VALUE    one command to each of the four that are kept; printed are code, running and released of each
+//   each OP A B VALUE    one command to each of the four that are kept: it prints code, running and released of each
 //   put TABLE I VALUE    a cell of the machine at hand is set, which no command does
-//   spoil TABLE I VALUE  the same; then what is said of that state is printed, and the machine that was kept or taken last is at hand again
+//   spoil TABLE I VALUE  the same; it prints what is said of that state, and the machine that was kept or taken last is
+//                        at hand again
 //
-// A line with another first word is passed over. What is said of a state: whether it is sound; code, running and released of `advance 0`, and 1 if
-// the state came back as it was; the code of op 0; code and count of "Wakes left" of task 1. A line that is printed begins with the number of
-// its line in the table. expected.py and host/hostile.c read the same table.
+// or is passed over. What is said of a state: 1 if it is sound, else 0; code, running and released of `advance 0`, and
+// 1 if the state came back as it was; the code of op 0; code and count of "Wakes left" of task 1. What is printed
+// begins with the number of its line in the table. expected.py and host/hostile.c read the same table.
 use kernel::Command;
 use kernel::Kernel;
 use kernel::TaskID;
