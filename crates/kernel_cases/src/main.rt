@@ -56,17 +56,11 @@ const WAITER: u64 = 0x776169746572;
 
 const CLOCK: u64 = 0x636c6f636b;
 
-struct Kept {
-    first: Kernel,
-    second: Kernel,
-    third: Kernel,
-    fourth: Kernel,
-    last: Kernel,
-}
-
+// The machine at hand, the one that was kept or taken last, and those that are kept: N stands at N mod 4.
 struct Bench {
     hand: Kernel,
-    kept: Kept,
+    last: Kernel,
+    kept: [Kernel; 4],
 }
 
 fn same_times(a: [u64; 32], b: [u64; 32]) -> bool {
@@ -132,11 +126,15 @@ fn asked(k: Kernel, task: u64) {
     shown_last(left.left as u64);
 }
 
-fn each(kept: Kept, c: Command) {
-    answered(kept.first, c);
-    answered(kept.second, c);
-    answered(kept.third, c);
-    let r = kept.fourth.step(c);
+fn each(kept: [Kernel; 4], c: Command) {
+    let first = kept[1];
+    let second = kept[2];
+    let third = kept[3];
+    let fourth = kept[0];
+    answered(first, c);
+    answered(second, c);
+    answered(third, c);
+    let r = fourth.step(c);
     shown(r.answer.code as u64);
     shown(r.answer.running.0 as u64);
     shown_last(r.answer.released.0 as u64);
@@ -190,47 +188,36 @@ fn put(k: Kernel, table: u64, at: u64, value: u64) -> Kernel {
     next
 }
 
-impl Kept {
-    fn with(self, n: u64, k: Kernel) -> Kept {
-        let mut kept = self;
-        match n {
-            1 => kept.first = k,
-            2 => kept.second = k,
-            3 => kept.third = k,
-            _ => kept.fourth = k,
-        }
-        kept.last = k;
-        kept
-    }
-
-    fn get(self, n: u64) -> Kernel {
-        match n {
-            1 => self.first,
-            2 => self.second,
-            3 => self.third,
-            _ => self.fourth,
-        }
-    }
-}
-
 impl Bench {
     fn with(self, k: Kernel) -> Bench {
-        let kept = self.kept;
-        Bench { hand: k, kept }
+        let mut next = self;
+        next.hand = k;
+        next
     }
 
-    // The machine at hand, kept or taken: it is at hand again when a case is over.
-    fn from(self, n: u64, k: Kernel) -> Bench {
-        let old = self.kept;
-        let kept = old.with(n, k);
-        Bench { hand: k, kept }
+    // The machine at hand, kept as n.
+    fn kept(self, n: u64) -> Bench {
+        let k = self.hand;
+        let mut next = self;
+        let i = (n % 4) as usize;
+        next.kept[i] = k;
+        next.last = k;
+        next
+    }
+
+    fn taken(self, n: u64) -> Bench {
+        let i = (n % 4) as usize;
+        let k = self.kept[i];
+        let mut next = self;
+        next.hand = k;
+        next.last = k;
+        next
     }
 
     fn spoilt(self, w: Words) -> Bench {
         let k = self.hand;
         said(put(k, w.a, w.b, w.c));
-        let kept = self.kept;
-        let last = kept.last;
+        let last = self.last;
         self.with(last)
     }
 
@@ -250,8 +237,8 @@ impl Bench {
             FRESH => self.with(Kernel::fresh()),
             DO => self.with(done(k, command(w))),
             PUT => self.with(put(k, w.a, w.b, w.c)),
-            KEEP => self.from(w.a, k),
-            TAKE => self.from(w.a, kept.get(w.a)),
+            KEEP => self.kept(w.a),
+            TAKE => self.taken(w.a),
             SPOIL => self.spoilt(w),
             ASK => {
                 asked(k, w.a);
@@ -284,13 +271,8 @@ fn main() {
     let k = Kernel::fresh();
     let mut bench = Bench {
         hand: k,
-        kept: Kept {
-            first: k,
-            second: k,
-            third: k,
-            fourth: k,
-            last: k,
-        },
+        last: k,
+        kept: [k; 4],
     };
     let mut w = Words::none(1);
     // Nothing says that the input ends, so the loop counts down from a number that no run uses up.
