@@ -1,12 +1,13 @@
 /*
- * A hostile host: a million calls with images of every length 0..1025, random bytes, single spoilt bytes of good images, states that no
- * command leads to, null where the length is 0, operands of every width, seeds and profiles good and bad, at every entry point. Each answer
- * and every byte afterwards are held to judge.h; the bytes stand between guard bytes, at any alignment, and what else is lent between guards
- * too. The seed is fixed, so that a run that fails once fails again. Prints one line of counts by code.
+ * A hostile host: the table of kernel_cases, which is its argument, on images; then a million calls in all, with images of every length 0..1025,
+ * random bytes, single spoilt bytes of good images, states that no command leads to, started and not, null where the length is 0, operands of
+ * every width, seeds and profiles good and bad, at every entry point. Each answer and every byte afterwards are held to judge.h; the bytes stand
+ * between guard bytes, at any alignment, and what else is lent between guards too. Whatever a call may not write is lent read-only: all of a
+ * refused call's, and an image that is only asked or drawn for. The seed is fixed, so that a run that fails once fails again. Prints one line of
+ * counts by code.
  */
+#include "watched.h"
 #include <inttypes.h>
-#include <stdio.h>
-#include <stdlib.h>
 #include "chance.h"
 #include "judge.h"
 #include "rvn_image.h"
@@ -14,38 +15,49 @@
 #define CALLS 1000000
 #define LONGEST 1025
 #define GUARD 64
+#define AREA (GUARD + 8 + LONGEST + GUARD)
 
-static uint8_t area[GUARD + 8 + LONGEST + GUARD], expected[sizeof area];
+static struct watched pages, draw_pages;
+static uint8_t *area, expected[AREA]; /* area: the pages' bytes, to be written */
 static uint8_t good[512]; /* an image that is stepped all along */
-static unsigned long counts[19], drawn_ops[12], releases[12], calls;
+static unsigned long counts[19], drawn_ops[12], releases[12], spoilt, sound;
 
 /* ---- bytes to lend */
 
+/* Where the host writes them; `at` is where the call finds them. */
 static uint8_t *lend(const uint8_t *bytes, size_t length)
 {
     uint8_t *image = area + GUARD + below(8);
-    memset(area, (int)below(256), sizeof area);
+    memset(area, (int)below(256), AREA);
     if (bytes)
         memcpy(image, bytes, length);
     else
         for (size_t i = 0; i < length; i++)
             image[i] = (uint8_t)draw();
-    memcpy(expected, area, sizeof area);
+    memcpy(expected, area, AREA);
     return image;
 }
 
-/* The seed, the weights and the value that a draw is lent, each between guards, and what they are to be afterwards. */
+/* The bytes as a call is lent them: to be written, or read-only. Null stays null. */
+static uint8_t *at(uint8_t *image, int written)
+{
+    return written || !image ? image : pages.lent + (image - area);
+}
+
+/* The seed, the weights and the value that a draw is lent, each between guards, and what they are to be afterwards. The host writes `lent`, and
+ * `only_read` is the same numbers. */
 #define MOST_WEIGHTS 17
-static struct lent {
+struct lent {
     uint64_t value[3];
     uint32_t seed[3], weights[MOST_WEIGHTS + 2];
-} lent, left;
+};
+static struct lent *lent, *only_read, left;
 
 static void judge_packed(const char *what, size_t length, uint32_t answer, uint32_t packed)
 {
-    if (answer != packed || memcmp(area, expected, sizeof area) != 0) {
+    if (answer != packed || memcmp(area, expected, AREA) != 0) {
         printf("call %lu, %s of %zu bytes: answer %" PRIu32 ", expected %" PRIu32 "%s\n", calls, what, length, answer, packed,
-               memcmp(area, expected, sizeof area) ? ", other bytes than expected" : "");
+               memcmp(area, expected, AREA) ? ", other bytes than expected" : "");
         exit(1);
     }
     calls++;
@@ -70,7 +82,8 @@ static unsigned try_step(uint8_t *image, size_t length, uint64_t op, uint64_t a,
         if (want.released)
             releases[op]++;
     }
-    judge("step", length, rvn_step(image, length, op, a, b, value), want);
+    watch("step", length);
+    judge("step", length, rvn_step(at(image, want.code == 0), length, op, a, b, value), want);
     return want.code;
 }
 
@@ -82,7 +95,8 @@ static void try_fresh(uint8_t *image, size_t length)
     m.ready_count = 1;
     if (length == 512)
         write_image(&m, expected + (image - area));
-    judge("fresh", length, rvn_fresh(image, length), want);
+    watch("fresh", length);
+    judge("fresh", length, rvn_fresh(at(image, want.code == 0), length), want);
 }
 
 static void try_left(uint8_t *image, size_t length, uint64_t task)
@@ -91,25 +105,29 @@ static void try_left(uint8_t *image, size_t length, uint64_t task)
     struct reply want = {1, 0, 0};
     if (read_image(&m, image, length))
         want = wakes_left(&m, task);
-    judge("wakes left", length, rvn_wakes_left(image, length, task), want);
+    watch("wakes left", length);
+    judge("wakes left", length, rvn_wakes_left(at(image, 0), length, task), want);
 }
 
-/* The seed is in `lent` already, and so are the weights, unless they are null. */
-static struct draft try_draw(uint8_t *image, size_t length, uint64_t span, const uint32_t *weights, size_t count)
+/* The seed is in `lent` already, and so are the weights, unless none are lent. */
+static struct draft try_draw(uint8_t *image, size_t length, uint64_t span, size_t count)
 {
     struct machine m;
-    struct draft want = {1, 0, 0, 0, 0, lent.seed[1]};
-    memcpy(&left, &lent, sizeof left);
+    struct draft want = {1, 0, 0, 0, 0, lent->seed[1]};
+    const uint32_t *weights = count ? only_read->weights + 1 : NULL;
+    memcpy(&left, lent, sizeof left);
     if (read_image(&m, image, length))
-        want = drawn(&m, lent.seed[1], span, weights, count);
+        want = drawn(&m, lent->seed[1], span, weights, count);
     if (want.code == 0) {
         left.value[1] = want.value;
         drawn_ops[want.op]++;
     }
     left.seed[1] = want.seed;
-    judge_packed("draw", length, rvn_draw(image, length, &lent.seed[1], span, weights, count, &lent.value[1]),
+    struct lent *numbers = want.code == 0 ? lent : only_read;
+    watch("draw", length);
+    judge_packed("draw", length, rvn_draw(at(image, 0), length, &numbers->seed[1], span, weights, count, &numbers->value[1]),
                  (uint32_t)(want.code + 256 * want.op + 65536 * want.a + 16777216 * want.b));
-    if (memcmp(&lent, &left, sizeof left) != 0) {
+    if (memcmp(lent, &left, sizeof left) != 0) {
         printf("call %lu, draw of %zu bytes: another seed, weights or value than expected\n", calls, length);
         exit(1);
     }
@@ -170,19 +188,19 @@ static struct draft draw_somehow(uint8_t *image, size_t length)
     uint64_t span = one_in(40) ? 1000001 + below(2) : one_in(40) ? 0 : one_in(20) ? 1000000 : one_in(60) ? draw() : 1 + below(100);
     size_t count = one_in(30) ? below(MOST_WEIGHTS + 1) : RVN_WEIGHTS;
     for (int i = 0; i < 3; i++) {
-        lent.value[i] = draw();
-        lent.seed[i] = (uint32_t)draw();
+        lent->value[i] = draw();
+        lent->seed[i] = (uint32_t)draw();
     }
     for (int i = 0; i < MOST_WEIGHTS + 2; i++)
-        lent.weights[i] = one_in(6) ? 0 : one_in(6) ? 100 : (uint32_t)below(101);
-    lent.weights[2] = one_in(40) ? 0 : 1 + (uint32_t)below(20);
+        lent->weights[i] = one_in(6) ? 0 : one_in(6) ? 100 : (uint32_t)below(101);
+    lent->weights[2] = one_in(40) ? 0 : 1 + (uint32_t)below(20);
     if (one_in(40)) {
         uint32_t heavy = one_in(2) ? 101 : (uint32_t)draw();
-        lent.weights[1 + below(RVN_WEIGHTS)] = heavy;
+        lent->weights[1 + below(RVN_WEIGHTS)] = heavy;
     }
     if (one_in(40))
-        lent.seed[1] = 0;
-    return try_draw(image, length, span, lent.weights + 1, count);
+        lent->seed[1] = 0;
+    return try_draw(image, length, span, count);
 }
 
 /* What is drawn is accepted, as it was drawn. */
@@ -208,14 +226,29 @@ static void call_somehow(uint8_t *image, size_t length)
         step_somehow(image, length);
 }
 
-/* ---- states that are sound, though no commands lead there */
+/* ---- states that no commands lead to */
 
-static void forge(uint8_t *image)
+/* What a state may have that a run has after Start only: a sound one has all of it after Start, and none before. */
+enum { CLOCK = 1, DELAYS = 2, WAITERS = 4, HOLDERS = 8, ALL = 15 };
+
+static void delay_until(struct machine *m, int t, uint64_t until)
+{
+    int i = 0;
+    while (i < m->delayed_count && m->tasks[m->delayed[i]].until <= until)
+        i++;
+    insert(m->delayed, &m->delayed_count, i, t);
+    m->tasks[t].until = until;
+    m->tasks[t].place = DELAYED;
+}
+
+/* A state that is sound, where it is started and has all, or is not and has nothing. */
+static void forge(uint8_t *image, int started, int has)
 {
     struct machine m;
     memset(&m, 0, sizeof m);
-    m.started = 1;
-    m.clock = one_in(3) ? draw() : one_in(6) ? UINT64_MAX - below(120) : below(20);
+    m.started = started;
+    if (has & CLOCK)
+        m.clock = one_in(3) ? draw() : one_in(6) ? UINT64_MAX - below(120) : below(20);
     m.ready_count = 1;
     m.tasks[0].created = 1;
     for (int o = 1; o < 8; o++)
@@ -228,19 +261,13 @@ static void forge(uint8_t *image)
             continue;
         k->created = 1;
         k->base = 1 + (int)below(15);
-        if (one_in(4)) {
-            uint64_t until = one_in(8) ? draw() : below(30);
-            int i = 0;
-            while (i < m.delayed_count && m.tasks[m.delayed[i]].until <= until)
-                i++;
-            insert(m.delayed, &m.delayed_count, i, t);
-            k->until = until;
-            k->place = DELAYED;
-        } else if (one_in(4) && m.ceiling[o] >= k->base && !m.waiter[o]) {
+        if ((has & DELAYS) && one_in(4)) {
+            delay_until(&m, t, one_in(8) ? draw() : below(30));
+        } else if ((has & WAITERS) && one_in(4) && m.ceiling[o] >= k->base && !m.waiter[o]) {
             m.waiter[o] = t;
             k->place = WAITING;
         } else {
-            if (one_in(2) && m.ceiling[o] >= k->base && !holder[o]++) {
+            if ((has & HOLDERS) && one_in(2) && m.ceiling[o] >= k->base && !holder[o]++) {
                 k->holds = o;
                 k->way = 1 + (int)below(2);
             }
@@ -250,6 +277,16 @@ static void forge(uint8_t *image)
     write_image(&m, image);
 }
 
+/* Sound, started or not; or not started and with one thing that a state has after Start only. */
+static void forge_some(uint8_t *image)
+{
+    uint64_t which = below(8);
+    if (which < 4)
+        forge(image, 1, ALL);
+    else
+        forge(image, 0, one_in(2) ? 0 : 1 << (which - 4));
+}
+
 /* Null for each image and for the weights, which the header allows where the length is 0. */
 static void call_with_null(void)
 {
@@ -257,10 +294,88 @@ static void call_with_null(void)
     try_step(NULL, 0, RVN_WAKE, 0, 0, 0);
     try_fresh(NULL, 0);
     try_left(NULL, 0, 1);
-    lent.seed[1] = 1;
-    try_draw(NULL, 0, 100, NULL, 0);
-    forge(bytes);
-    try_draw(lend(bytes, 512), 512, 100, NULL, 0);
+    lent->seed[1] = 1;
+    try_draw(NULL, 0, 100, 0);
+    forge(bytes, 1, ALL);
+    try_draw(lend(bytes, 512), 512, 100, 0);
+}
+
+/* ---- the table of kernel_cases, which crates/kernel_cases/src/main.rt describes */
+
+static void set_cell(uint8_t *image, const char *table, uint64_t i, uint64_t value)
+{
+    static const struct { const char *name; int at; } tables[] = {{"started", 8}, {"ceiling", 16}, {"waiter", 24}, {"base", 32}, {"ready", 64}, {"delayed", 96}, {"held", 128}, {"way", 160}};
+    if (strcmp(table, "clock") == 0)
+        put_number(image, value);
+    if (strcmp(table, "until") == 0)
+        put_number(image + 256 + 8 * i, value);
+    for (size_t k = 0; k < sizeof tables / sizeof tables[0]; k++)
+        if (strcmp(table, tables[k].name) == 0)
+            image[(uint64_t)tables[k].at + i] = (uint8_t)value;
+}
+
+/* A state of the table, at every entry point. What its line says of it, judge.h says too. */
+static void try_state(const uint8_t *bytes, int is_sound, const char *line)
+{
+    struct machine m;
+    if (read_image(&m, bytes, 512) != is_sound) {
+        printf("judge.h says otherwise of the state of: %s", line);
+        exit(1);
+    }
+    is_sound ? sound++ : spoilt++;
+    try_step(lend(bytes, 512), 512, RVN_ADVANCE, 0, 0, 0);
+    try_step(lend(bytes, 512), 512, 0, 0, 0, 0);
+    try_left(lend(bytes, 512), 512, 1);
+    draw_somehow(lend(bytes, 512), 512);
+    try_fresh(lend(bytes, 512), 512);
+}
+
+static void do_step(uint8_t *bytes, const uint64_t *n)
+{
+    uint8_t *image = lend(bytes, 512);
+    try_step(image, 512, n[0], n[1], n[2], n[3]);
+    memcpy(bytes, image, 512);
+}
+
+static void do_line(const char *line)
+{
+    static uint8_t hand[512], last[512], kept[5][512], other[512];
+    char word[16] = "", table[16] = "", condition[64] = "";
+    uint64_t n[4] = {0};
+    sscanf(line, "%15s %" SCNu64 " %" SCNu64 " %" SCNu64 " %" SCNu64, word, &n[0], &n[1], &n[2], &n[3]);
+    if (strcmp(word, "fresh") == 0)
+        memset(hand, 0, 512);
+    else if (strcmp(word, "do") == 0)
+        do_step(hand, n);
+    else if (strcmp(word, "ask") == 0)
+        try_left(lend(hand, 512), 512, n[0]);
+    else if (strcmp(word, "keep") == 0)
+        memcpy(last, memcpy(kept[n[0] % 5], hand, 512), 512);
+    else if (strcmp(word, "take") == 0)
+        memcpy(last, memcpy(hand, kept[n[0] % 5], 512), 512);
+    else if (strcmp(word, "each") == 0)
+        for (int k = 1; k <= 4; k++)
+            do_step(memcpy(other, kept[k], 512), n);
+    else if (sscanf(line, "%15s %15s %" SCNu64 " %" SCNu64 " %63s", word, table, &n[0], &n[1], condition) >= 4)
+        set_cell(hand, table, n[0], n[1]);
+    if (strcmp(word, "spoil") == 0) {
+        try_state(hand, strcmp(condition, "sound") == 0, line);
+        memcpy(hand, last, 512);
+    }
+}
+
+static void do_table(const char *name)
+{
+    char line[256];
+    FILE *table = name ? fopen(name, "r") : NULL;
+    if (!table) {
+        printf("the table of kernel_cases, crates/kernel_cases/stdin, is the argument\n");
+        exit(1);
+    }
+    while (fgets(line, sizeof line, table))
+        if (line[0] != '#')
+            do_line(line);
+    fclose(table);
 }
 
 /* 1 if every code of these functions was answered, every kind drawn, and a task released by each op that can; else it says which was not. */
@@ -282,17 +397,27 @@ static int all_met(void)
             printf("op %u released nobody\n", op);
             met = 0;
         }
+    if (spoilt == 0 || sound == 0) {
+        printf("the table has no spoilt state, or no sound one\n");
+        met = 0;
+    }
     return met;
 }
 
-int main(void)
+int main(int argc, char **argv)
 {
     uint8_t bytes[LONGEST];
+    pages = watched_pages();
+    draw_pages = watched_pages();
+    area = pages.own;
+    lent = (struct lent *)draw_pages.own;
+    only_read = (struct lent *)draw_pages.lent;
     call_with_null();
+    do_table(argc == 2 ? argv[1] : NULL);
     /* every length, with random bytes and with a good image that is cut or continued */
     for (size_t length = 0; length <= LONGEST; length++) {
         memset(bytes, 0, sizeof bytes);
-        forge(bytes);
+        forge(bytes, 1, ALL);
         for (int random = 0; random < 2; random++) {
             const uint8_t *from = random ? NULL : bytes;
             try_step(lend(from, length), length, RVN_WAKE, 0, 0, 0);
@@ -302,13 +427,13 @@ int main(void)
             try_fresh(lend(from, length), length);
         }
     }
-    /* every byte of a good image, spoilt */
-    for (size_t i = 0; i < 512; i++)
+    /* every byte of a good image, spoilt, before Start and after it */
+    for (size_t i = 0; i < 2 * 512; i++)
         for (int value = 0; value < 256; value++) {
             if (value == 0)
-                forge(bytes);
+                forge(bytes, i < 512, i < 512 ? ALL : 0);
             memcpy(good, bytes, 512);
-            good[i] = (uint8_t)value;
+            good[i % 512] = (uint8_t)value;
             uint8_t *image = lend(good, 512);
             if (value % 4 == 0)
                 try_left(image, 512, operand(32));
@@ -332,7 +457,7 @@ int main(void)
             bytes[below(512)] ^= change;
             call_somehow(lend(bytes, 512), 512);
         } else if (which <= 5) {
-            forge(bytes);
+            forge_some(bytes);
             call_somehow(lend(bytes, 512), 512);
         } else {
             image = lend(good, 512);
@@ -350,6 +475,6 @@ int main(void)
     for (unsigned code = 0; code < 19; code++)
         if (code < 14 || code > 16)
             printf(" %u:%lu", code, counts[code]);
-    printf("\n");
+    printf("; states of the table: %lu sound, %lu spoilt\n", sound, spoilt);
     return !all_met();
 }

@@ -2,11 +2,11 @@
  * A hostile host of the judge: tapes of every length 0..4113, of random bytes and recorded from an image with the other library, whole, cut,
  * continued, and with bytes, answers and records spoilt; null where the length or the count is 0; other counts of numbers than four. Each
  * answer and every number and byte afterwards are held to a reading of its own, over judge.h's machine; the bytes stand between guard bytes, at
- * any alignment, and the numbers between guards too. The seed is fixed, so that a run that fails once fails again. Prints one line of counts.
+ * any alignment, and the numbers between guards too. The tape is lent read-only, and so are the numbers where none is to be written. The seed is
+ * fixed, so that a run that fails once fails again. Prints one line of counts.
  */
+#include "watched.h"
 #include <inttypes.h>
-#include <stdio.h>
-#include <stdlib.h>
 #include "chance.h"
 #include "judge.h"
 #include "rvn_image.h"
@@ -18,10 +18,14 @@
 #define GUARD 64
 #define MOST_NUMBERS 9
 
-static uint8_t area[GUARD + 8 + LONGEST + GUARD], expected[sizeof area];
+#define AREA (GUARD + 8 + LONGEST + GUARD)
+
+/* The tape's pages and the numbers', as the host writes them and as they are lent to be read. */
+static struct watched pages, number_pages;
+static uint8_t *area, expected[AREA];
 static uint8_t tape[LONGEST];
-static uint64_t lent[1 + MOST_NUMBERS + 1], left[sizeof lent / sizeof lent[0]];
-static unsigned long answers[256], agreed_codes[19], agreed_releases[12], calls;
+static uint64_t *lent, left[1 + MOST_NUMBERS + 1];
+static unsigned long answers[256], agreed_codes[19], agreed_releases[12];
 
 /* ---- a second reading of a tape */
 
@@ -91,25 +95,28 @@ static uint32_t try_judge(const uint8_t *bytes, size_t length, size_t count)
 {
     struct finding want = finding_of(bytes, length);
     uint8_t *place = area + GUARD + below(8);
-    memset(area, (int)below(256), sizeof area);
+    memset(area, (int)below(256), AREA);
     if (length)
         memcpy(place, bytes, length);
-    memcpy(expected, area, sizeof area);
-    for (size_t i = 0; i < sizeof lent / sizeof lent[0]; i++)
+    memcpy(expected, area, AREA);
+    for (size_t i = 0; i < sizeof left / sizeof left[0]; i++)
         lent[i] = draw();
     memcpy(left, lent, sizeof left);
-    if (count == RVN_VERDICT_NUMBERS)
+    uint64_t *numbers = (uint64_t *)number_pages.lent + 1;
+    if (count == RVN_VERDICT_NUMBERS) {
         memcpy(left + 1, want.numbers, sizeof want.numbers);
-    else
+        numbers = lent + 1;
+    } else
         want.answer = 1;
-    uint32_t answer = rvn_judge(bytes ? place : NULL, length, count ? lent + 1 : NULL, count);
+    watch("a judged tape", length);
+    uint32_t answer = rvn_judge(bytes ? pages.lent + (place - area) : NULL, length, count ? numbers : NULL, count);
     if (answer != want.answer) {
         printf("answer %" PRIu32 ", expected %" PRIu32 "\n", answer, want.answer);
         fail("another answer", length, count);
     }
     if (memcmp(lent, left, sizeof left) != 0)
         fail("other numbers than expected", length, count);
-    if (memcmp(area, expected, sizeof area) != 0)
+    if (memcmp(area, expected, AREA) != 0)
         fail("the tape was written to", length, count);
     calls++;
     answers[answer & 255]++;
@@ -223,6 +230,10 @@ static int all_met(void)
 int main(void)
 {
     static const size_t counts[] = {0, 1, 2, 3, 4, 5, 8, MOST_NUMBERS};
+    pages = watched_pages();
+    number_pages = watched_pages();
+    area = pages.own;
+    lent = (uint64_t *)number_pages.own;
     for (size_t i = 0; i < sizeof counts / sizeof counts[0]; i++)
         try_judge(NULL, 0, counts[i]);
     /* every length: random bytes, and a recorded tape that is cut or continued */

@@ -1,8 +1,10 @@
 #!/bin/sh
 # Builds the two static libraries, holds what each exports to its header, compiles the example hosts and the hostile hosts for x86-64, and runs
 # them: walk and draw against what the programs of these names print, judge_tape against what program judge prints of its stored tapes, the
-# hostile hosts against their stored lines. Wants the toolchain, and of Debian gcc, libc6-dev and binutils on x86-64; on Arm
-# gcc-x86-64-linux-gnu and libc6-dev-amd64-cross, and the hosts run under the toolchain's emulator.
+# hostile hosts against their stored lines, and stack against the bounds that docs/IMAGE.md and docs/JUDGE-C.md state. A line that a hostile host
+# prints is stored in host/NAME.stdout, as it was printed in target/host/NAME.stdout, after somebody has seen why it changed. Wants the toolchain, and
+# of Debian gcc, libc6-dev and binutils on x86-64; on Arm gcc-x86-64-linux-gnu and libc6-dev-amd64-cross, and the hosts run under the toolchain's
+# emulator.
 set -eu
 here=$(cd "$(dirname "$0")" && pwd)
 root=$(cd "$here/.." && pwd)
@@ -52,15 +54,24 @@ host() {
     $cc -std=c99 -Wall -Wextra -Wpedantic -Werror -O2 -static -I"$here" -o "$out/$name" "$here/$name.c" "$@" ||
         fail "$cc does not build host/$name.c. On Debian it wants: $packages"
 }
-# hostile_tapes links both libraries at once.
+# hostile_tapes and stack link both libraries at once.
 host walk "$libs/libimage.a"
 host draw "$libs/libimage.a"
 host hostile "$libs/libimage.a"
 host judge_tape "$libs/libjudge_c.a"
 host hostile_tapes "$libs/libimage.a" "$libs/libjudge_c.a"
-for name in walk draw hostile hostile_tapes; do
-    $run "$out/$name" >"$out/$name.stdout" || { cat "$out/$name.stdout" >&2; fail "host/$name.c failed, as it says above"; }
-done
+host stack "$libs/libimage.a" "$libs/libjudge_c.a"
+# runs NAME ARGUMENT..
+runs() {
+    name=$1
+    shift
+    $run "$out/$name" "$@" >"$out/$name.stdout" || { cat "$out/$name.stdout" >&2; fail "host/$name.c failed, as it says above"; }
+}
+runs walk
+runs draw
+runs hostile "$root/crates/kernel_cases/stdin"
+runs hostile_tapes
+runs stack
 for name in walk draw; do
     diff "$root/crates/$name/stdout" "$out/$name.stdout" >&2 || fail "host/$name.c prints other lines (>) than program $name (<)"
 done
@@ -83,3 +94,4 @@ else
 fi
 echo "host: walk and draw on an image print what the programs print; $(cat "$out/hostile.stdout"); exported: $(tr '\n' ' ' <"$out/image.exported")"
 echo "host: judge_tape prints what program judge prints; $(cat "$out/hostile_tapes.stdout"); exported: $(tr '\n' ' ' <"$out/judge_c.exported")"
+echo "host: $(cat "$out/stack.stdout")"

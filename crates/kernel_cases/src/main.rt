@@ -1,7 +1,67 @@
-// Forged states: each is answered 1, 0, 0 by the step and comes back as it is. A line of the output is a case's number, then code, running
-// and released, then 1 if every table, the clock and the start came back, else 0.
+// Cases of the step and of the test of a saved state: a table on standard input, in the file stdin. A line of it is
+//
+//   fresh                the machine at hand is the fresh one
+//   do OP A B VALUE      a command to the machine at hand: it prints code, running, released, the clock, and 1 if the
+//                        state is as it was, else 0
+//   ask TASK             "Wakes left" of the machine at hand: it prints code and count
+//   keep N, take N       the machine at hand is kept as N, 1..4; a kept one is at hand again
+//   each OP A B VALUE    one command to each of the four that are kept: it prints code, running and released of each
+//   put TABLE I VALUE    a cell of the machine at hand is set, which no command does
+//   spoil TABLE I VALUE  the same; it prints what is said of that state, and the machine that was kept or taken last is
+//                        at hand again
+//
+// or is passed over. What is said of a state: 1 if it is sound, else 0; code, running and released of `advance 0`, and
+// 1 if the state came back as it was; the code of op 0; code and count of "Wakes left" of task 1. What is printed
+// begins with the number of its line in the table. expected.py and host/hostile.c read the same table.
 use kernel::Command;
 use kernel::Kernel;
+use kernel::TaskID;
+
+mod words;
+
+use words::Words;
+
+// The first words, and the names of the tables, as `Words` has them.
+const DO: u64 = 0x646f;
+
+const EACH: u64 = 0x65616368;
+
+const ASK: u64 = 0x61736b;
+
+const FRESH: u64 = 0x6672657368;
+
+const KEEP: u64 = 0x6b656570;
+
+const TAKE: u64 = 0x74616b65;
+
+const PUT: u64 = 0x707574;
+
+const SPOIL: u64 = 0x73706f696c;
+
+const BASE: u64 = 0x62617365;
+
+const READY: u64 = 0x7265616479;
+
+const DELAYED: u64 = 0x64656c61796564;
+
+const HELD: u64 = 0x68656c64;
+
+const WAY: u64 = 0x776179;
+
+const UNTIL: u64 = 0x756e74696c;
+
+const CEILING: u64 = 0x6365696c696e67;
+
+const WAITER: u64 = 0x776169746572;
+
+const CLOCK: u64 = 0x636c6f636b;
+
+// The machine at hand, the one that was kept or taken last, and those that are kept: N stands at N mod 4.
+struct Bench {
+    hand: Kernel,
+    last: Kernel,
+    kept: [Kernel; 4],
+}
 
 fn same_times(a: [u64; 32], b: [u64; 32]) -> bool {
     let mut i = 0;
@@ -30,138 +90,204 @@ fn shown(n: u64) {
     io::write_all(libc::STDOUT_FILENO, b" ");
 }
 
-// What the step says of a state, whatever the command: here an advance.
-fn tried(n: u64, k: Kernel) {
+fn shown_last(n: u64) {
+    io::print_decimal(libc::STDOUT_FILENO, n);
+    io::write_all(libc::STDOUT_FILENO, b"\n");
+}
+
+fn command(w: Words) -> Command {
+    Command {
+        op: (w.a % 256) as u8,
+        a: (w.b % 256) as u8,
+        b: (w.c % 256) as u8,
+        value: w.d,
+    }
+}
+
+// Code, running and released of a command, and the state after it.
+fn answered(k: Kernel, c: Command) -> Kernel {
+    let r = k.step(c);
+    shown(r.answer.code as u64);
+    shown(r.answer.running.0 as u64);
+    shown(r.answer.released.0 as u64);
+    r.next
+}
+
+fn done(k: Kernel, c: Command) -> Kernel {
+    let next = answered(k, c);
+    shown(next.clock);
+    shown_last(same(k, next) as u64);
+    next
+}
+
+fn asked(k: Kernel, task: u64) {
+    let left = k.wakes_left(TaskID((task % 256) as u8));
+    shown(left.code as u64);
+    shown_last(left.left as u64);
+}
+
+fn each(kept: [Kernel; 4], c: Command) {
+    let first = kept[1];
+    let second = kept[2];
+    let third = kept[3];
+    let fourth = kept[0];
+    answered(first, c);
+    answered(second, c);
+    answered(third, c);
+    let r = fourth.step(c);
+    shown(r.answer.code as u64);
+    shown(r.answer.running.0 as u64);
+    shown_last(r.answer.released.0 as u64);
+}
+
+fn prints(word: u64) -> bool {
+    (word == DO) | (word == EACH) | (word == ASK) | (word == SPOIL)
+}
+
+// What is said of a state.
+fn said(k: Kernel) {
+    shown(k.sound() as u64);
+    let next = answered(
+        k,
+        Command {
+            op: 6,
+            a: 0,
+            b: 0,
+            value: 0,
+        },
+    );
+    shown(same(k, next) as u64);
     let r = k.step(Command {
-        op: 6,
+        op: 0,
         a: 0,
         b: 0,
         value: 0,
     });
-    let next = r.next;
-    shown(n);
     shown(r.answer.code as u64);
-    shown(r.answer.running.0 as u64);
-    shown(r.answer.released.0 as u64);
-    io::print_decimal(libc::STDOUT_FILENO, same(k, next) as u64);
-    io::write_all(libc::STDOUT_FILENO, b"\n");
+    asked(k, 1);
 }
 
-fn after(k: Kernel, op: u8, a: u8, b: u8, value: u64) -> Kernel {
-    let r = k.step(Command { op, a, b, value });
-    r.next
+// A cell is set. (A place that a table does not have is one that it has.)
+fn put(k: Kernel, table: u64, at: u64, value: u64) -> Kernel {
+    let mut next = k;
+    let t = (at % 32) as usize;
+    let o = (at % 8) as usize;
+    let v = (value % 256) as u8;
+    match table {
+        BASE => next.base[t] = v,
+        READY => next.ready[t] = v,
+        DELAYED => next.delayed[t] = v,
+        HELD => next.held[t] = v,
+        WAY => next.way[t] = v,
+        UNTIL => next.until[t] = value,
+        CEILING => next.ceiling[o] = v,
+        WAITER => next.waiter[o] = v,
+        CLOCK => next.clock = value,
+        _ => next.started = value == 1,
+    }
+    next
 }
 
-// Task 1 runs and holds object 1, 3 is ready behind it, 2 is delayed, and 4 waits on object 1.
-fn busy() -> Kernel {
-    let k = after(Kernel::fresh(), 1, 1, 3, 0);
-    let k = after(k, 1, 2, 5, 0);
-    let k = after(k, 1, 3, 3, 0);
-    let k = after(k, 1, 4, 4, 0);
-    let k = after(k, 2, 1, 6, 0);
-    let k = after(k, 3, 0, 0, 0);
-    let k = after(k, 4, 0, 0, 10);
-    let k = after(k, 10, 1, 0, 0);
-    after(k, 7, 1, 0, 0)
+impl Bench {
+    fn with(self, k: Kernel) -> Bench {
+        let mut next = self;
+        next.hand = k;
+        next
+    }
+
+    // The machine at hand, kept as n.
+    fn kept(self, n: u64) -> Bench {
+        let k = self.hand;
+        let mut next = self;
+        let i = (n % 4) as usize;
+        next.kept[i] = k;
+        next.last = k;
+        next
+    }
+
+    fn taken(self, n: u64) -> Bench {
+        let i = (n % 4) as usize;
+        let k = self.kept[i];
+        let mut next = self;
+        next.hand = k;
+        next.last = k;
+        next
+    }
+
+    fn spoilt(self, w: Words) -> Bench {
+        let k = self.hand;
+        said(put(k, w.a, w.b, w.c));
+        let last = self.last;
+        self.with(last)
+    }
+
+    // A line of the table is carried out.
+    fn told(self, w: Words) -> Bench {
+        if prints(w.word) {
+            shown(w.line);
+        }
+        self.carried(w)
+    }
+
+    fn carried(self, w: Words) -> Bench {
+        let k = self.hand;
+        let kept = self.kept;
+        let word = w.word;
+        match word {
+            FRESH => self.with(Kernel::fresh()),
+            DO => self.with(done(k, command(w))),
+            PUT => self.with(put(k, w.a, w.b, w.c)),
+            KEEP => self.kept(w.a),
+            TAKE => self.taken(w.a),
+            SPOIL => self.spoilt(w),
+            ASK => {
+                asked(k, w.a);
+                self
+            }
+            EACH => {
+                each(kept, command(w));
+                self
+            }
+            _ => self,
+        }
+    }
 }
 
-fn numbers() {
-    let mut k = busy();
-    k.base[3] = 255;
-    tried(1, k);
-    let mut k = busy();
-    k.ready[0] = 255;
-    tried(2, k);
-    let mut k = busy();
-    k.delayed[0] = 255;
-    tried(3, k);
-    let mut k = busy();
-    k.held[1] = 255;
-    tried(4, k);
-    let mut k = busy();
-    k.waiter[1] = 255;
-    tried(5, k);
-    let mut k = busy();
-    k.ceiling[1] = 255;
-    tried(6, k);
-    let mut k = busy();
-    k.way[1] = 255;
-    tried(7, k);
+fn wide(x: u8) -> u64 {
+    x as u64
 }
 
-fn lines() {
-    let mut k = busy();
-    k.ready[0] = 3;
-    k.ready[1] = 1;
-    tried(8, k);
-    let mut k = busy();
-    k.ready[2] = 3;
-    tried(9, k);
-    let mut k = busy();
-    k.delayed[1] = 3;
-    tried(10, k);
-    let mut k = busy();
-    k.ready[1] = 0;
-    tried(11, k);
-    let mut k = busy();
-    k.ready[1] = 0;
-    k.ready[2] = 3;
-    tried(12, k);
-    let mut k = busy();
-    k.delayed[1] = 3;
-    k.ready[1] = 0;
-    k.until[3] = 9;
-    tried(13, k);
-}
-
-fn holders() {
-    let mut k = busy();
-    k.held[2] = 1;
-    k.way[2] = 1;
-    k.held[1] = 0;
-    k.way[1] = 0;
-    tried(14, k);
-    let mut k = busy();
-    k.held[3] = 1;
-    k.way[3] = 1;
-    tried(15, k);
-    let mut k = busy();
-    k.held[1] = 2;
-    tried(16, k);
-    let mut k = busy();
-    k.ceiling[1] = 2;
-    tried(17, k);
-    let mut k = busy();
-    k.waiter[2] = 4;
-    tried(18, k);
-}
-
-fn cells() {
-    let mut k = busy();
-    k.until[3] = 1;
-    tried(19, k);
-    let mut k = busy();
-    k.way[3] = 1;
-    tried(20, k);
-    let mut k = busy();
-    k.ceiling[0] = 1;
-    tried(21, k);
-    let mut k = busy();
-    k.base[0] = 1;
-    tried(22, k);
-    let mut k = Kernel::fresh();
-    k.clock = 1;
-    tried(23, k);
-    let mut k = busy();
-    k.started = false;
-    tried(24, k);
+// A byte of the input, or 256 at its end.
+fn byte() -> u64 {
+    let mut one = [0u8; 1];
+    let got = libc::read(libc::STDIN_FILENO, &mut one);
+    if got != 1 {
+        return 256;
+    }
+    wide(one[0])
 }
 
 fn main() {
-    // the states that the forged ones start from are sound
-    tried(0, busy());
-    numbers();
-    lines();
-    holders();
-    cells();
+    let k = Kernel::fresh();
+    let mut bench = Bench {
+        hand: k,
+        last: k,
+        kept: [k; 4],
+    };
+    let mut w = Words::none(1);
+    // Nothing says that the input ends, so the loop counts down from a number that no run uses up.
+    let mut turns = u64::MAX;
+    let mut next = byte();
+    while turns > 0 && next < 256 {
+        if next == 10 {
+            bench = bench.told(w.parted());
+            w = w.next_line();
+        } else if next == 32 {
+            w = w.parted();
+        } else {
+            w = w.longer(next);
+        }
+        next = byte();
+        turns -= 1;
+    }
 }
