@@ -11,6 +11,7 @@ import errno
 import os
 import pathlib
 import platform
+import resource
 import shutil
 import signal
 import subprocess
@@ -29,6 +30,11 @@ ROWS = [b'1 1 0 0 0 0\n', b'2 3 0 1 0 0\n', b'3 6 0 1 0 100\n', b'4 0 14 1 0 100
 FIRST = b'seed 1 span 100 weights 10 10 10 10 10 10 10 10 count 25\n'
 SETUP = b'create 1 3\nwake\nstart\n'
 SETUP_ROWS = [b'1 1 1 3 0 0 0 0 0\n', b'2 5 0 0 0 2 0 0 0\n']
+# What is said, before the system's reason.
+INPUT = 'the input could not be read: '
+OUTPUT = 'the output could not be written: '
+# The stack that each program has enough with, in bytes: docs/PROGRAMS.md.
+STACK = 128 * 1024
 TAPES = ROOT / 'crates' / 'judge_cases' / 'data'
 
 work = pathlib.Path(tempfile.mkdtemp(prefix='io.'))
@@ -64,8 +70,8 @@ def run(*words, given=b'', closed=(), environment=None, command=RUN, **more):
         more['stdin'] = open(work / 'given', 'rb')
     with open(work / 'out', 'wb') as out, open(work / 'said', 'wb') as said:
         try:
-            ended = subprocess.run([command, *words], env={**os.environ, **(environment or {})}, timeout=LIMIT,
-                                   preexec_fn=lambda: [os.close(fd) for fd in closed], **{'stdout': out, 'stderr': said, **more})
+            ended = subprocess.run([command, *words], timeout=LIMIT, **{'stdout': out, 'stderr': said, 'env': {**os.environ, **(environment or {})},
+                                                                        'preexec_fn': lambda: [os.close(fd) for fd in closed], **more})
         except subprocess.TimeoutExpired:
             stop(f'{" ".join(words)} did not end within {LIMIT} s')
     log = work / 'calls'
@@ -74,19 +80,17 @@ def run(*words, given=b'', closed=(), environment=None, command=RUN, **more):
 
 
 def hold(title, ended, out, status, said=''):
-    """The output byte for byte; of what is said, nothing where nothing is wanted, else one line with each of the words."""
+    """The output byte for byte, and what is said: all of it where a text is wanted, some words of its first line where they are given as a tuple."""
     global count
     count += 1
-    words = [said] if isinstance(said, str) else said
-    lines = ended.said.split('\n')
-    fine = ended.said == '' if said == '' else all(word in lines[0] for word in words) and (lines[1:] == [''] or 'run:' in lines[0])
+    fine = ended.said == said if isinstance(said, str) else all(word in ended.said.split('\n')[0] for word in said)
     if ended.out != out or ended.status != status or not fine:
-        stop(f'{title}: status {ended.status}, wanted {status}; said {ended.said!r}, wanted {words}; printed {ended.out[-200:]!r}, wanted {out[-200:]!r}, of '
+        stop(f'{title}: status {ended.status}, wanted {status}; said {ended.said!r}, wanted {said!r}; printed {ended.out[-200:]!r}, wanted {out[-200:]!r}, of '
              f'{len(ended.out)} and {len(out)} bytes')
 
 
-def reason(number):
-    return os.strerror(number)
+def told(what, number):
+    return f'{what}{os.strerror(number)}\n'
 
 
 def last_is_failure(title, ended, call):
@@ -99,9 +103,9 @@ def last_is_failure(title, ended, call):
 # ---- Reads
 
 def failed_read(program, given, at, error, out):
-    title = f'{program}: reading fails behind {at} bytes, {reason(error)}'
+    title = f'{program}: reading fails behind {at} bytes, {os.strerror(error)}'
     ended = run(program, given=given, environment=faults(program, read=f'{at} {error} 1'))
-    hold(title, ended, out, 3, ('input', reason(error)))
+    hold(title, ended, out, 3, told(INPUT, error))
     at_failure = ended.calls.index(f'read error {error}')
     if any(line.startswith('read') for line in ended.calls[at_failure + 1:]):
         stop(f'{title}: it reads on behind the failure: {ended.calls}')
@@ -174,7 +178,7 @@ def unwritten(program, given, whole, places):
     for at in places:
         title = f'{program}: writing fails behind {at} bytes'
         ended = run(program, given=given, environment=faults(program, write=f'{at} {errno.ENOSPC} 1', most=100))
-        hold(title, ended, whole[:at], 3, ('output', reason(errno.ENOSPC)))
+        hold(title, ended, whole[:at], 3, told(OUTPUT, errno.ENOSPC))
         last_is_failure(title, ended, 'write')
 
 
@@ -197,19 +201,18 @@ def failed_writes():
 def descriptors():
     tape = TAPES / '00.tape'
     for program, given, head in (('walk', SCRIPT, WALK_HEADER), ('draw', FIRST + SETUP, DRAW_HEADER), ('judge', tape.read_bytes(), b'')):
-        bad = reason(errno.EBADF)
-        hold(f'{program} <&-', run(program, closed=[0]), head, 3, ('input', bad))
-        hold(f'{program} >&-', run(program, given=given, closed=[1]), b'', 3, ('output', bad))
-        hold(f'{program} <&- >&-', run(program, closed=[0, 1]), b'', 3, bad)
+        hold(f'{program} <&-', run(program, closed=[0]), head, 3, told(INPUT, errno.EBADF))
+        hold(f'{program} >&-', run(program, given=given, closed=[1]), b'', 3, told(OUTPUT, errno.EBADF))
+        hold(f'{program} <&- >&-', run(program, closed=[0, 1]), b'', 3, told(OUTPUT if head else INPUT, errno.EBADF))
         hold(f'{program} with nothing open', run(program, closed=[0, 1, 2]), b'', 3)
-        hold(f'{program} <folder', run(program, stdin=os.open(ROOT, os.O_RDONLY)), head, 3, ('input', reason(errno.EISDIR)))
+        hold(f'{program} <folder', run(program, stdin=os.open(ROOT, os.O_RDONLY)), head, 3, told(INPUT, errno.EISDIR))
         with open('/dev/full', 'wb') as full:
-            hold(f'{program} >/dev/full', run(program, given=given, stdout=full), b'', 3, ('output', reason(errno.ENOSPC)))
+            hold(f'{program} >/dev/full', run(program, given=given, stdout=full), b'', 3, told(OUTPUT, errno.ENOSPC))
         with open(work / 'given', 'rb') as only_read:
-            hold(f'{program} to a file open for reading', run(program, given=given, stdout=only_read), b'', 3, ('output', bad))
+            hold(f'{program} to a file open for reading', run(program, given=given, stdout=only_read), b'', 3, told(OUTPUT, errno.EBADF))
         gone, left = os.pipe()
         os.close(gone)
-        hold(f'{program} to nobody, signal ignored', run(program, given=given, stdout=left, restore_signals=False), b'', 3, ('output', reason(errno.EPIPE)))
+        hold(f'{program} to nobody, signal ignored', run(program, given=given, stdout=left, restore_signals=False), b'', 3, told(OUTPUT, errno.EPIPE))
         hold(f'{program} to nobody', run(program, given=given, stdout=left), b'', -signal.SIGPIPE)
         os.close(left)
         # what cannot be said changes nothing else
@@ -237,6 +240,7 @@ def streams():
     global count
     count += 1
     walk = subprocess.Popen([RUN, 'walk'], stdin=subprocess.PIPE, stdout=subprocess.PIPE)
+    signal.signal(signal.SIGALRM, lambda *_: stop('walk over a pipe holds its output back'))
     signal.alarm(LIMIT)
     seen = [walk.stdout.readline()]
     for line in SCRIPT.split(b'\n')[:3]:
@@ -250,14 +254,36 @@ def streams():
 
 
 def endless_first_line():
+    """It is answered once it is over 128 bytes, and nothing more is read."""
     answer = DRAW_HEADER + b'0 0 0 0 0 14 0 0 0\n'
     with open('/dev/zero', 'rb') as zeros:
-        ended = run('draw', stdin=zeros)
-        hold('draw: an endless first line', Ended(ended.out, '', ended.status, []), answer, 0)
+        hold('draw: an endless first line', run('draw', stdin=zeros), answer, 0, ('hint: ',))
         ended = run('draw', stdin=zeros, environment=faults('draw', most=1))
-    hold('draw: an endless first line, byte by byte', Ended(ended.out, '', ended.status, []), answer, 0)
+    hold('draw: an endless first line, byte by byte', ended, answer, 0, ('hint: ',))
     if ended.calls.count('read 1') != 129:
         stop(f'draw reads {ended.calls.count("read 1")} bytes of an endless first line, and 129 tell that it is over 128')
+
+
+def hints():
+    """Standard output is fixed; what may be wrong with the input is said on standard error, once."""
+    rows = WALK_HEADER + b''.join(b'%d 0 14 0 0 0\n' % n for n in range(1, 2001))
+    hold('walk: a script with byte 13', run('walk', given=b'start\r\n' * 2000), rows, 0, ('hint: ', '13'))
+    for line, number in ((b'seeds 1', 14), (FIRST.replace(b'seed 1', b'seed 0'), 17), (FIRST.replace(b'span 100', b'span 0'), 18), (FIRST + b'wake\n', 2)):
+        rows = DRAW_HEADER + (b'1 5 0 0 0 2 0 0 0\n' if number == 2 else b'') + b'0 0 0 0 0 %d 0 0 0\n' % number
+        ended = run('draw', given=line)
+        hold(f'draw: nothing drawn, {number}', ended, rows, 0, ('hint: ',))
+        if f'\n{number}: ' not in ended.said or ended.said.count('hint') != 1:
+            stop(f'draw: nothing drawn, {number}: {ended.said}')
+
+
+def stack():
+    """Each program has enough with the stack that docs/PROGRAMS.md says. (Under the emulator the stack is the emulator's.)"""
+    tape = (TAPES / '00.tape').read_bytes()
+    for program, given in () if ARM else (('walk', SCRIPT * 200), ('draw', FIRST.replace(b'25', b'2500') + SETUP), ('judge', tape)):
+        whole = run(program, given=given)
+        # the environment stands on the stack too
+        small = run(given=given, command=str(ROOT / 'target' / 'run' / program), env={}, preexec_fn=lambda: resource.setrlimit(resource.RLIMIT_STACK, (STACK, STACK)))
+        hold(f'{program} with a stack of {STACK} bytes', small, whole.out, 0)
 
 
 # ---- The launcher
@@ -273,18 +299,17 @@ def bare():
 
 
 def refusals():
-    usage = 'run: '
     sample = (ROOT / 'crates' / 'walk' / 'stdout').read_bytes()
     hold('./run', run(), sample, 0)
     hold('a folder', run('walk', str(ROOT)), b'', 2, ('run: ', str(ROOT), 'folder'))
     hold('a folder for judge', run('judge', '.', cwd=ROOT), b'', 2, ('run: ', "'.'", 'folder'))
     hold('no file', run('draw', 'no such file'), b'', 2, ('run: ', "'no such file'"))
-    hold('an empty name', run('judge', ''), b'', 2, (usage, "''"))
-    hold('a word too many', run('walk', RUN, 'two'), b'', 2, (usage, "'two' is a word too many"))
-    hold('the first of two too many', run('judge', 'a', 'b', 'c'), b'', 2, (usage, "'b' is a word too many"))
-    hold('test with a word', run('test', 'all'), b'', 2, (usage, "'all' is a word too many"))
-    hold('no program', run('walks'), b'', 2, (usage, "'walks'"))
-    hold('two programs', run('walk draw'), b'', 2, (usage, "'walk draw'"))
+    hold('an empty name', run('judge', ''), b'', 2, ('run: ', "''"))
+    hold('a word too many', run('walk', RUN, 'two'), b'', 2, ('run: ', "'two' is a word too many"))
+    hold('the first of two too many', run('judge', 'a', 'b', 'c'), b'', 2, ('run: ', "'b' is a word too many"))
+    hold('test with a word', run('test', 'all'), b'', 2, ('run: ', "'all' is a word too many"))
+    hold('no program', run('walks'), b'', 2, ('run: ', "'walks'"))
+    hold('two programs', run('walk draw'), b'', 2, ('run: ', "'walk draw'"))
     hold('a file', run('walk', str(ROOT / 'crates' / 'walk' / 'stdin')), sample, 0)
     link = work / 'link'
     link.symlink_to('other')
@@ -308,7 +333,7 @@ def toolchain():
     rt.write_text('#!/bin/sh\necho "rt: $*: programs NOT PROVED"\nexit 1\n')
     rt.chmod(0o755)
     ended = run('judge', command=launcher, environment={**bare(), 'RATTLE_HOME': str(copy / 'kit')})
-    hold('a proof that fails', ended, b'', 3, 'run: building')
+    hold('a proof that fails', ended, b'', 3, ('run: building',))
     if 'rt: check: programs NOT PROVED' not in ended.said or 'were not built' not in ended.said:
         stop(f'a proof that fails is told so: {ended.said}')
 
@@ -326,7 +351,10 @@ def prepare():
 
 def main():
     prepare()
-    for part in (refusals, toolchain, walk_reads, draw_reads, judge_reads, interrupted, failed_writes, descriptors, goes_away, streams, endless_first_line):
+    if not run('walk', environment=faults('walk')).calls:
+        stop('host/fail.c is not loaded: its log stays empty')
+    for part in (refusals, toolchain, walk_reads, draw_reads, judge_reads, interrupted, failed_writes, descriptors, goes_away, streams, endless_first_line,
+                 hints, stack):
         part()
     shutil.rmtree(work)
     print(f'io: {count} runs of walk, draw and judge, whose reads and writes fail or do not: output, message and status as told')
