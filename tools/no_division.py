@@ -2,7 +2,7 @@
 """Holds the printing of walk, draw and judge free of division and of remainder, which is division too.
 
     python3 tools/no_division.py            the sources of the crates that print: no operator / or %, no decimal of the toolchain's
-    python3 tools/no_division.py --built    the programs in target/bin as machine code: no division instruction
+    python3 tools/no_division.py --built    the programs in target/run, as ./run builds them, as machine code: no division instruction
 
 The sources are read as text, without comments, texts and contracts (a contract may divide: it is never run). The machine code is read by objdump. Each
 sees what the other does not: a compiler makes of a division by a constant a multiplication, or a shift, which the machine code does not tell from
@@ -52,14 +52,14 @@ def sources():
 # A quotient by a constant is the upper half of a product, so a multiplication that keeps that half is looked for too.
 DIVISION = re.compile(r'i?div[bwlq]?$|mul[bwlq]?$|mulx')
 # Document 01 draws by remainders, so draw divides where it draws: in these functions, or in those that the compiler has put them into.
-DRAWS = re.compile(r'generator::|session::draw::draw_|programs::draw::|main$')
+DRAWS = re.compile(r'generator::|session::draw::draw_|programs::draw::|rvn_program_draw$')
 
 
 def divisions(program):
     """How many instructions a program has, and the functions that divide with the instruction."""
-    path = ROOT / 'target' / 'bin' / program
+    path = ROOT / 'target' / 'run' / program
     if not path.exists():
-        sys.exit(f'no_division: target/bin/{program} is not there; build it first: rt check {program}')
+        sys.exit(f'no_division: target/run/{program} is not there; build it first: ./run build')
     tool = os.environ.get('OBJDUMP') or ('objdump' if platform.machine() == 'x86_64' else 'x86_64-linux-gnu-objdump')
     try:
         text = subprocess.run([tool, '-d', '--no-show-raw-insn', path], stdout=subprocess.PIPE, check=True, text=True).stdout
@@ -75,7 +75,7 @@ def divisions(program):
             if DIVISION.match(said.group(1)) or said.group(1).startswith('imul') and ',' not in said.group(2):
                 found.append((function, said.group(1)))
     if count < 1000:
-        sys.exit(f'no_division: {tool} reads {count} instructions in target/bin/{program}, which has thousands; is it an objdump for x86-64?')
+        sys.exit(f'no_division: {tool} reads {count} instructions in target/run/{program}, which has thousands; is it an objdump for x86-64?')
     return count, found
 
 

@@ -15,6 +15,10 @@ ROOT = pathlib.Path(__file__).resolve().parent.parent
 SECOND = ROOT / 'second' / 'bin'
 CRATE = ROOT / 'crates' / 'session_cases'
 CLOCK = 2**64 - 1
+# The most that walk or draw may come to read at a time: an input of three pieces and more is longer than three of these.
+PIECE = 4096
+# Draws about each full thousand, since draw writes a thousand at a time.
+COUNTS = (1001, 2000, 2001, 3000)
 # Where a decimal gets one digit more: each power of ten that 64 bits hold with its neighbours, 0, 9 and 10 among them; and the last number.
 EDGES = sorted({10**k + d for k in range(20) for d in (-1, 0, 1)} | {CLOCK})
 
@@ -105,6 +109,25 @@ def draws():
     yield text(first(seed='4294967295', span='1000000', weights='100 100 100 100 100 100 100 100', count='100000'))
 
 
+# Three pieces of lines that are no commands, of many lengths.
+FILLING = ['x' * (i % 120 + 1) for i in range(220)]
+
+
+def long_inputs(kind):
+    """Inputs of more than three pieces, and draws of more than one write."""
+    if kind == 'walk':
+        # all that counts stands behind three pieces; each row is of all before it; pieces that end where a line of 16 bytes does, and no last line end
+        yield text(*FILLING, *SETUP, *('delay 10', 'open 1', 'advance 10', 'wake', 'closep 1 1') * 3)
+        yield text(*SETUP, *(line for i in range(550) for line in (f'delay {i + 1}', 'advance 1', 'wake')))
+        yield text('x' * 9, 'start', *['advance 1000000'] * 800)[:-1]
+        return
+    yield text(first(seed='5', count='9'), *FILLING, *SETUP, 'advance 5')
+    spread = [f'create {i} {i % 15 + 1}' for i in range(1, 32)] + [f'object {i} {15 - i}' for i in range(1, 8)]
+    yield text(first(seed='6', count='60'), *(line for word in spread for line in (word, *['x' * 110] * 3)), 'start')
+    for count in COUNTS:
+        yield text(first(seed=str(count), weights='10 10 10 20 20 10 20 20', count=str(count)), *SETUP)
+
+
 def edges(kind):
     """Every edge of the decimals: as walk's clock, and as a value of draw's, which is refused before the start and shown as given."""
     if kind == 'walk':
@@ -113,6 +136,12 @@ def edges(kind):
 
 
 # ---- What they reach
+
+def behind(given):
+    """The numbers, from 0, of the lines that begin behind three pieces; of draw the setup lines begin with line 1, and their rows with 0."""
+    lines = given[:3 * PIECE].count(b'\n') + 1
+    return range(lines - given.startswith(b'seed'), given.count(b'\n'))
+
 
 def reached(kind, given, printed):
     """The names of what an input and its output show."""
@@ -127,10 +156,12 @@ def reached(kind, given, printed):
         'a line over 64 bytes': any(len(line) > 64 for line in lines),
         'a line over 4096 bytes': any(len(line) > 4096 for line in lines),
         '31 tasks': sum(row[1] == '1' and row[code] == '0' for row in rows) == 31,
+        'counts behind three pieces': any(rows[n][code] == '0' for n in behind(given) if n < len(rows)),
         'the last tick': any(row[-1] == str(CLOCK) for row in rows),
         'the edges of the decimals': {str(n) for n in EDGES} <= {row[-1 if kind == 'walk' else 4] for row in rows},
     }
-    return {f'{kind}: {name}' for name in found} | {f'{kind}: {name}' for name, seen in tests.items() if seen}
+    drawn = {f'{count} draws' for count in COUNTS if kind == 'draw' and b' count %d\n' % count in given and rows[-1][5] == '0'}
+    return {f'{kind}: {name}' for name in found | drawn} | {f'{kind}: {name}' for name, seen in tests.items() if seen}
 
 
 def wanted():
@@ -138,7 +169,9 @@ def wanted():
                 9: (0, 2, 4, 6, 7, 9), 10: (0, 2, 4, 6, 7, 8, 10, 12), 11: (0, 2, 4, 6, 7, 9), 0: (14,)}
     names = {f'walk: op {op} code {code}' for op, codes in refusals.items() for code in codes}
     names |= {f'draw: op {op} code 0' for op in range(1, 12)} | {f'draw: op 0 code {code}' for code in (2, 14, 17, 18)}
-    both = ['op 5 releases', 'op 8 releases', 'op 11 releases', 'no input', 'no last line end', 'a line over 64 bytes', '31 tasks', 'byte 0', 'byte 13', 'byte 255', 'the edges of the decimals']
+    both = ['op 5 releases', 'op 8 releases', 'op 11 releases', 'no input', 'no last line end', 'a line over 64 bytes', '31 tasks', 'byte 0', 'byte 13', 'byte 255', 'the edges of the decimals',
+            'counts behind three pieces']
+    names |= {f'draw: {count} draws' for count in COUNTS}
     return names | {f'{kind}: {name}' for kind in ('walk', 'draw') for name in both} | {'walk: a line over 4096 bytes', 'walk: the last tick'}
 
 
@@ -164,7 +197,9 @@ def made():
     test_first_lines()
     files, printed, seen = {}, {}, set()
     for kind, odd in (('walk', walks()), ('draw', draws())):
-        inputs = list(odd) + [run('make_input', kind, str(number)) for number in MADE[kind]] + [edges(kind)]
+        inputs = list(odd) + [run('make_input', kind, str(number)) for number in MADE[kind]] + [edges(kind)] + list(long_inputs(kind))
+        if len(inputs) > 100:
+            sys.exit(f'session_cases: {len(inputs)} inputs of {kind}, and the names of crates/session_cases/src/main.rt have two digits')
         for i, given in enumerate(inputs):
             name = f'{i:02}.{kind}'
             files[CRATE / 'data' / name] = given

@@ -1,0 +1,363 @@
+#!/usr/bin/env python3
+"""Makes reads and writes of walk, draw and judge fail, and holds what they print, say and answer to docs/PROGRAMS.md.
+
+    python3 host/io.py      builds the programs by ./run where they are not built, runs the cases, and prints one line
+
+Each case is a run of ./run. The failures come of host/fail.c, a library that is loaded before the C library: behind a number of bytes a call fails with
+an errno. Others come of the system itself: a full device, closed descriptors, a folder for a file, a reader that goes away. It wants gcc (on Arm
+gcc-x86-64-linux-gnu), as host/run.sh does.
+"""
+import errno
+import os
+import pathlib
+import platform
+import resource
+import shutil
+import signal
+import subprocess
+import sys
+import tempfile
+
+ROOT = pathlib.Path(__file__).resolve().parent.parent
+RUN = str(ROOT / 'run')
+ARM = platform.machine() == 'aarch64'
+# No case takes a second; one that waits for what never comes is ended here.
+LIMIT = 20
+WALK_HEADER = b'n op code run rel clock\n'
+DRAW_HEADER = b'n op a b value code run rel clock\n'
+SCRIPT = b'create 1 3\nstart\nadvance 100\n\nwake 1\nadvance 7'
+ROWS = [b'1 1 0 0 0 0\n', b'2 3 0 1 0 0\n', b'3 6 0 1 0 100\n', b'4 0 14 1 0 100\n', b'5 0 14 1 0 100\n', b'6 6 0 1 0 107\n']
+FIRST = b'seed 1 span 100 weights 10 10 10 10 10 10 10 10 count 25\n'
+SETUP = b'create 1 3\nwake\nstart\n'
+SETUP_ROWS = [b'1 1 1 3 0 0 0 0 0\n', b'2 5 0 0 0 2 0 0 0\n']
+# What is said, before the system's reason.
+INPUT = 'the input could not be read: '
+OUTPUT = 'the output could not be written: '
+# The stack that each program has enough with, in bytes: docs/PROGRAMS.md.
+STACK = 128 * 1024
+TAPES = ROOT / 'crates' / 'judge_cases' / 'data'
+
+work = pathlib.Path(tempfile.mkdtemp(prefix='io.'))
+count = 0
+
+
+def stop(what):
+    sys.exit(f'host/io.py: {what}\nhost/io.py: the files of this case are in {work}')
+
+
+# ---- Running
+
+class Ended:
+    """What a run printed and said, its status (as subprocess has it: minus the signal's number), and the calls that host/fail.c saw."""
+
+    def __init__(self, out, said, status, calls):
+        self.out, self.said, self.status, self.calls = out, said, status, calls
+
+
+def faults(program, **how):
+    """The environment in which host/fail.c is loaded into the program. On Arm it is the emulator that passes the library on."""
+    library = f'LD_PRELOAD={work / "fail.so"}'
+    name, value = ('QEMU_SET_ENV', library) if ARM else library.split('=', 1)
+    log = work / 'calls'
+    log.unlink(missing_ok=True)
+    return {name: value, 'FAIL_IN': program, 'FAIL_LOG': str(log), **{f'FAIL_{key.upper()}': str(value) for key, value in how.items()}}
+
+
+def run(*words, given=b'', closed=(), environment=None, command=RUN, **more):
+    """One run of the launcher; `closed` are the descriptors that it is started without."""
+    if 'stdin' not in more:
+        (work / 'given').write_bytes(given)
+        more['stdin'] = open(work / 'given', 'rb')
+    with open(work / 'out', 'wb') as out, open(work / 'said', 'wb') as said:
+        try:
+            ended = subprocess.run([command, *words], timeout=LIMIT, **{'stdout': out, 'stderr': said, 'env': {**os.environ, **(environment or {})},
+                                                                        'preexec_fn': lambda: [os.close(fd) for fd in closed], **more})
+        except subprocess.TimeoutExpired:
+            stop(f'{" ".join(words)} did not end within {LIMIT} s')
+    log = work / 'calls'
+    calls = log.read_text().split('\n')[:-1] if environment and 'FAIL_LOG' in environment and log.exists() else []
+    return Ended((work / 'out').read_bytes(), (work / 'said').read_bytes().decode(), ended.returncode, calls)
+
+
+def hold(title, ended, out, status, said=''):
+    """The output byte for byte, and what is said: all of it where a text is wanted, some words of its first line where they are given as a tuple."""
+    global count
+    count += 1
+    fine = ended.said == said if isinstance(said, str) else all(word in ended.said.split('\n')[0] for word in said)
+    if ended.out != out or ended.status != status or not fine:
+        stop(f'{title}: status {ended.status}, wanted {status}; said {ended.said!r}, wanted {said!r}; printed {ended.out[-200:]!r}, wanted {out[-200:]!r}, of '
+             f'{len(ended.out)} and {len(out)} bytes')
+
+
+def told(what, number):
+    return f'{what}{os.strerror(number)}\n'
+
+
+def last_is_failure(title, ended, call):
+    """Behind the failed call nothing more is read or written."""
+    wrong = [line for line in ended.calls[:-1] if 'error' in line]
+    if not ended.calls or not ended.calls[-1].startswith(f'{call} error') or wrong:
+        stop(f'{title}: the calls end in {ended.calls[-3:]}, and not in the {call} that failed')
+
+
+# ---- Reads
+
+def failed_read(program, given, at, error, out):
+    title = f'{program}: reading fails behind {at} bytes, {os.strerror(error)}'
+    ended = run(program, given=given, environment=faults(program, read=f'{at} {error} 1'))
+    hold(title, ended, out, 3, told(INPUT, error))
+    at_failure = ended.calls.index(f'read error {error}')
+    if any(line.startswith('read') for line in ended.calls[at_failure + 1:]):
+        stop(f'{title}: it reads on behind the failure: {ended.calls}')
+
+
+def whole_lines(given, at):
+    return given[:at].count(b'\n')
+
+
+def walk_reads():
+    for at in range(len(SCRIPT) + 1):
+        failed_read('walk', SCRIPT, at, errno.EIO, WALK_HEADER + b''.join(ROWS[:whole_lines(SCRIPT, at)]))
+    failed_read('walk', SCRIPT, 26, errno.EAGAIN, WALK_HEADER + b''.join(ROWS[:2]))
+    # the line that was `advance 100`, in the last of many pieces
+    long = b'wake\n' * 5000 + b'advance 100\n'
+    failed_read('walk', long, len(long) - 3, errno.EIO, WALK_HEADER + b''.join(b'%d 5 2 0 0 0\n' % n for n in range(1, 5001)))
+
+
+def draw_reads():
+    given = FIRST + SETUP
+    for at in range(0, len(given), 3):
+        failed_read('draw', given, at, errno.EIO, DRAW_HEADER + b''.join(SETUP_ROWS[:max(0, whole_lines(given, at) - 1)]))
+    # inside the count, inside `start`, and before its line end
+    for at, rows in ((len(FIRST) - 2, 0), (len(given) - 3, 2), (len(given) - 1, 2)):
+        failed_read('draw', given, at, errno.EAGAIN, DRAW_HEADER + b''.join(SETUP_ROWS[:rows]))
+    # behind the accepted start nothing is read, so nothing fails
+    whole = run('draw', given=given)
+    hold('draw', whole, whole.out, 0)
+    ended = run('draw', given=given + b'advance 1\n', environment=faults('draw', read=f'{len(given)} {errno.EIO} 1'))
+    hold('draw: reading would fail behind the start', ended, whole.out, 0)
+
+
+def judge_reads():
+    tape = (TAPES / '00.tape').read_bytes()
+    for at in (0, 1, 15, 16, 17, 32, 100, len(tape) - 16, len(tape) - 1, len(tape)):
+        failed_read('judge', tape, at, errno.EIO, b'')
+    failed_read('judge', tape, 100, errno.EAGAIN, b'')
+    for verdict, name in verdicts().items():
+        tape = (TAPES / name).read_bytes()
+        whole = run('judge', given=tape)
+        hold(f'judge: {name}', whole, whole.out, verdict)
+        # interrupted and in small pieces: the same
+        ended = run('judge', given=tape, environment=faults('judge', most=7, turns=1))
+        hold(f'judge: {name} in pieces', ended, whole.out, verdict)
+        unwritten('judge', tape, whole.out, (0, 5, len(whole.out) - 1))
+
+
+def verdicts():
+    """A stored tape for each status: agrees, differs, refused."""
+    lines = (ROOT / 'crates' / 'judge_cases' / 'stdout').read_text().split('\n')
+    names = {}
+    for name, said in zip(lines[0::3], lines[2::3]):
+        names.setdefault(('agrees', 'differs', 'refused').index(said.split()[0].rstrip(':')), name.split()[1])
+    return names
+
+
+def interrupted():
+    """EINTR is tried again, at each call, and again and again; pieces of one byte, read and written, change nothing."""
+    for program, given in (('walk', SCRIPT), ('draw', FIRST + SETUP)):
+        whole = run(program, given=given)
+        hold(program, whole, whole.out, 0)
+        for how in ({'turns': 1}, {'most': 1}, {'turns': 1, 'most': 1}, {'read': f'25 {errno.EINTR} 3'}, {'write': f'30 {errno.EINTR} 3'}, {'write': f'0 {errno.EINTR} 1'}):
+            hold(f'{program}: {how}', run(program, given=given, environment=faults(program, **how)), whole.out, 0)
+
+
+# ---- Writes
+
+def unwritten(program, given, whole, places):
+    """The write behind so many bytes fails, in small pieces of input: what was written before stands, and nothing else is done."""
+    for at in places:
+        title = f'{program}: writing fails behind {at} bytes'
+        ended = run(program, given=given, environment=faults(program, write=f'{at} {errno.ENOSPC} 1', most=100))
+        hold(title, ended, whole[:at], 3, told(OUTPUT, errno.ENOSPC))
+        last_is_failure(title, ended, 'write')
+
+
+def failed_writes():
+    walked = run('walk', given=SCRIPT).out
+    unwritten('walk', SCRIPT, walked, range(0, len(walked), 5))
+    long = b'start\n' * 2000
+    whole = run('walk', given=long).out
+    unwritten('walk', long, whole, (24, 5000, len(whole) - 1))
+    given = FIRST + SETUP
+    drawn = run('draw', given=given).out
+    unwritten('draw', given, drawn, (0, 10, len(DRAW_HEADER), len(DRAW_HEADER) + 3, len(drawn) - 1))
+    given = FIRST.replace(b'25', b'3500') + SETUP
+    drawn = run('draw', given=given).out
+    unwritten('draw', given, drawn, (len(DRAW_HEADER) + 30, 20000, len(drawn) // 2, len(drawn) - 1))
+
+
+# ---- What the system itself refuses
+
+def descriptors():
+    tape = TAPES / '00.tape'
+    for program, given, head in (('walk', SCRIPT, WALK_HEADER), ('draw', FIRST + SETUP, DRAW_HEADER), ('judge', tape.read_bytes(), b'')):
+        hold(f'{program} <&-', run(program, closed=[0]), head, 3, told(INPUT, errno.EBADF))
+        hold(f'{program} >&-', run(program, given=given, closed=[1]), b'', 3, told(OUTPUT, errno.EBADF))
+        hold(f'{program} <&- >&-', run(program, closed=[0, 1]), b'', 3, told(OUTPUT if head else INPUT, errno.EBADF))
+        hold(f'{program} with nothing open', run(program, closed=[0, 1, 2]), b'', 3)
+        hold(f'{program} <folder', run(program, stdin=os.open(ROOT, os.O_RDONLY)), head, 3, told(INPUT, errno.EISDIR))
+        with open('/dev/full', 'wb') as full:
+            hold(f'{program} >/dev/full', run(program, given=given, stdout=full), b'', 3, told(OUTPUT, errno.ENOSPC))
+        with open(work / 'given', 'rb') as only_read:
+            hold(f'{program} to a file open for reading', run(program, given=given, stdout=only_read), b'', 3, told(OUTPUT, errno.EBADF))
+        gone, left = os.pipe()
+        os.close(gone)
+        hold(f'{program} to nobody, signal ignored', run(program, given=given, stdout=left, restore_signals=False), b'', 3, told(OUTPUT, errno.EPIPE))
+        hold(f'{program} to nobody', run(program, given=given, stdout=left), b'', -signal.SIGPIPE)
+        os.close(left)
+        # what cannot be said changes nothing else
+        hold(f'{program} 2>&-', run(program, closed=[0, 2]), head, 3)
+
+
+def goes_away():
+    """A reader that goes away ends the program, though its input never ends."""
+    global count
+    count += 1
+    endless = subprocess.Popen(['yes', 'wake'], stdout=subprocess.PIPE)
+    walk = subprocess.Popen([RUN, 'walk'], stdin=endless.stdout, stdout=subprocess.PIPE)
+    endless.stdout.close()
+    head = walk.stdout.readline()
+    walk.stdout.close()
+    status = walk.wait(timeout=LIMIT)
+    endless.kill()
+    endless.wait()
+    if head != WALK_HEADER or status != -signal.SIGPIPE:
+        stop(f'walk whose reader goes away: {head!r}, status {status}')
+
+
+def streams():
+    """What is printed of a line is there before the next line is written."""
+    global count
+    count += 1
+    walk = subprocess.Popen([RUN, 'walk'], stdin=subprocess.PIPE, stdout=subprocess.PIPE)
+    signal.signal(signal.SIGALRM, lambda *_: stop('walk over a pipe holds its output back'))
+    signal.alarm(LIMIT)
+    seen = [walk.stdout.readline()]
+    for line in SCRIPT.split(b'\n')[:3]:
+        walk.stdin.write(line + b'\n')
+        walk.stdin.flush()
+        seen.append(walk.stdout.readline())
+    signal.alarm(0)
+    walk.stdin.close()
+    if seen != [WALK_HEADER, *ROWS[:3]] or walk.wait(timeout=LIMIT) != 0:
+        stop(f'walk over a pipe printed {seen}')
+
+
+def endless_first_line():
+    """It is answered once it is over 128 bytes, and nothing more is read."""
+    answer = DRAW_HEADER + b'0 0 0 0 0 14 0 0 0\n'
+    with open('/dev/zero', 'rb') as zeros:
+        hold('draw: an endless first line', run('draw', stdin=zeros), answer, 0, ('hint: ',))
+        ended = run('draw', stdin=zeros, environment=faults('draw', most=1))
+    hold('draw: an endless first line, byte by byte', ended, answer, 0, ('hint: ',))
+    if ended.calls.count('read 1') != 129:
+        stop(f'draw reads {ended.calls.count("read 1")} bytes of an endless first line, and 129 tell that it is over 128')
+
+
+def hints():
+    """Standard output is fixed; what may be wrong with the input is said on standard error, once."""
+    rows = WALK_HEADER + b''.join(b'%d 0 14 0 0 0\n' % n for n in range(1, 2001))
+    hold('walk: a script with byte 13', run('walk', given=b'start\r\n' * 2000), rows, 0, ('hint: ', '13'))
+    for line, number in ((b'seeds 1', 14), (FIRST.replace(b'seed 1', b'seed 0'), 17), (FIRST.replace(b'span 100', b'span 0'), 18), (FIRST + b'wake\n', 2)):
+        rows = DRAW_HEADER + (b'1 5 0 0 0 2 0 0 0\n' if number == 2 else b'') + b'0 0 0 0 0 %d 0 0 0\n' % number
+        ended = run('draw', given=line)
+        hold(f'draw: nothing drawn, {number}', ended, rows, 0, ('hint: ',))
+        if f'\n{number}: ' not in ended.said or ended.said.count('hint') != 1:
+            stop(f'draw: nothing drawn, {number}: {ended.said}')
+
+
+def stack():
+    """Each program has enough with the stack that docs/PROGRAMS.md says. (Under the emulator the stack is the emulator's.)"""
+    tape = (TAPES / '00.tape').read_bytes()
+    for program, given in () if ARM else (('walk', SCRIPT * 200), ('draw', FIRST.replace(b'25', b'2500') + SETUP), ('judge', tape)):
+        whole = run(program, given=given)
+        # the environment stands on the stack too
+        small = run(given=given, command=str(ROOT / 'target' / 'run' / program), env={}, preexec_fn=lambda: resource.setrlimit(resource.RLIMIT_STACK, (STACK, STACK)))
+        hold(f'{program} with a stack of {STACK} bytes', small, whole.out, 0)
+
+
+# ---- The launcher
+
+def bare():
+    """An environment in which there is no rt: a folder with links to the commands that the launcher uses."""
+    folder = work / 'bin'
+    folder.mkdir(exist_ok=True)
+    for name in ('sh', 'cat', 'date', 'dirname', 'find', 'flock', 'head', 'mkdir', 'mv', 'readlink', 'rm', 'sed', 'tail', 'uname'):
+        if not (folder / name).exists():
+            (folder / name).symlink_to(shutil.which(name))
+    return {'PATH': str(folder), 'RATTLE_HOME': ''}
+
+
+def refusals():
+    sample = (ROOT / 'crates' / 'walk' / 'stdout').read_bytes()
+    hold('./run', run(), sample, 0)
+    hold('a folder', run('walk', str(ROOT)), b'', 2, ('run: ', str(ROOT), 'folder'))
+    hold('a folder for judge', run('judge', '.', cwd=ROOT), b'', 2, ('run: ', "'.'", 'folder'))
+    hold('no file', run('draw', 'no such file'), b'', 2, ('run: ', "'no such file'"))
+    hold('an empty name', run('judge', ''), b'', 2, ('run: ', "''"))
+    hold('a word too many', run('walk', RUN, 'two'), b'', 2, ('run: ', "'two' is a word too many"))
+    hold('the first of two too many', run('judge', 'a', 'b', 'c'), b'', 2, ('run: ', "'b' is a word too many"))
+    hold('test with a word', run('test', 'all'), b'', 2, ('run: ', "'all' is a word too many"))
+    hold('no program', run('walks'), b'', 2, ('run: ', "'walks'"))
+    hold('two programs', run('walk draw'), b'', 2, ('run: ', "'walk draw'"))
+    hold('a file', run('walk', str(ROOT / 'crates' / 'walk' / 'stdin')), sample, 0)
+    link = work / 'link'
+    link.symlink_to('other')
+    (work / 'other').symlink_to(RUN)
+    hold('through a link to a link', run(command=str(link), cwd='/'), sample, 0)
+    hold('without rt', run(environment=bare()), sample, 0)
+
+
+def toolchain():
+    """A copy of the launcher beside a source and nothing that is built: the toolchain is missing, or does not build."""
+    copy = work / 'copy'
+    for folder in ('crates/programs/src', 'host', 'kit/bin'):
+        (copy / folder).mkdir(parents=True)
+    (copy / 'crates.txt').write_text('programs: io\n')
+    (copy / 'crates/programs/src/lib.rt').write_text('')
+    shutil.copy(ROOT / 'host' / 'program.c', copy / 'host')
+    launcher = shutil.copy(RUN, copy)
+    hold('no toolchain', run('walk', command=launcher, environment=bare()), b'', 3, ('run: the Rattle toolchain is missing', 'PATH'))
+    hold('no toolchain where it is said to be', run('walk', command=launcher, environment={**bare(), 'RATTLE_HOME': '/nowhere'}), b'', 3, ('missing', '/nowhere/bin/rt'))
+    rt = copy / 'kit/bin/rt'
+    rt.write_text('#!/bin/sh\necho "rt: $*: programs NOT PROVED"\nexit 1\n')
+    rt.chmod(0o755)
+    ended = run('judge', command=launcher, environment={**bare(), 'RATTLE_HOME': str(copy / 'kit')})
+    hold('a proof that fails', ended, b'', 3, ('run: building',))
+    if 'rt: check: programs NOT PROVED' not in ended.said or 'were not built' not in ended.said:
+        stop(f'a proof that fails is told so: {ended.said}')
+
+
+# ---- All of it
+
+def prepare():
+    if subprocess.run([RUN, 'build']).returncode != 0:
+        sys.exit('host/io.py: the programs were not built, as is said above')
+    compiler = os.environ.get('CC') or ('x86_64-linux-gnu-gcc' if ARM else 'gcc')
+    words = [*compiler.split(), '-std=c99', '-Wall', '-Wextra', '-Wpedantic', '-Werror', '-O2', '-shared', '-fPIC', '-o', work / 'fail.so', ROOT / 'host' / 'fail.c']
+    if not shutil.which(words[0]) or subprocess.run(words).returncode != 0:
+        sys.exit(f'host/io.py: {compiler} does not build host/fail.c. On Debian it wants gcc, on Arm gcc-x86-64-linux-gnu')
+
+
+def main():
+    prepare()
+    if not run('walk', environment=faults('walk')).calls:
+        stop('host/fail.c is not loaded: its log stays empty')
+    for part in (refusals, toolchain, walk_reads, draw_reads, judge_reads, interrupted, failed_writes, descriptors, goes_away, streams, endless_first_line,
+                 hints, stack):
+        part()
+    shutil.rmtree(work)
+    print(f'io: {count} runs of walk, draw and judge, whose reads and writes fail or do not: output, message and status as told')
+
+
+main()
