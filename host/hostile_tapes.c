@@ -56,12 +56,12 @@ static struct finding finding_of(const uint8_t *bytes, size_t length)
     m.ready_count = m.tasks[0].created = 1;
     for (const uint8_t *r = bytes; length >= 16; r += 16, length -= 16) {
         f.answer = fault(r, f.numbers[1] == 0);
+        if (f.numbers[1] == 0 && f.answer != 15)
+            f.numbers[0] = number_at(r + 8);
         if (f.answer)
             return f;
-        if (f.numbers[1]++ == 0) {
-            f.numbers[0] = number_at(r + 8);
+        if (f.numbers[1]++ == 0)
             continue;
-        }
         struct reply rules = step(&m, r[2], r[3], r[4], number_at(r + 8));
         f.numbers[2] = packed(r[5], r[6], r[7]);
         f.numbers[3] = packed(rules.code, rules.running, rules.released);

@@ -84,7 +84,7 @@ for tape in "$root"/crates/judge_cases/data/*.tape; do
     $run "$out/judge_tape" "$tape" || [ $? -eq 1 ] || fail "host/judge_tape.c cannot judge ${tape##*/}"
 done >"$out/judge_tape.stdout"
 diff "$root/crates/judge_cases/stdout" "$out/judge_tape.stdout" >&2 || fail "host/judge_tape.c prints other lines (>) of the stored tapes than program judge (<)"
-$run "$out/judge_tape" <"$root/crates/judge_cases/data/00.tape" >"$out/judge_tape.input" || fail "host/judge_tape.c cannot judge standard input"
+$run "$out/judge_tape" <"$root/crates/judge_cases/data/000.tape" >"$out/judge_tape.input" || fail "host/judge_tape.c cannot judge standard input"
 sed -n 2,3p "$out/judge_tape.stdout" | diff - "$out/judge_tape.input" >&2 || fail "host/judge_tape.c prints other lines of standard input (>) than of the same file (<)"
 # The headers are also C++, together, where there is a compiler.
 if echo 'int main(){}' | $cc -x c++ -fsyntax-only - 2>/dev/null; then

@@ -19,7 +19,7 @@ extern "C" {
 
 /* The count of the numbers that a host lends to be told in, and where each stands among them. */
 #define RVN_VERDICT_NUMBERS 4
-#define RVN_VERDICT_SEED 0   /* the header's seed, 1..4294967295, which nothing is judged by; 0 where no header was read */
+#define RVN_VERDICT_SEED 0   /* the header's seed, which nothing is judged by: 1..4294967295, and with 17 any other; 0 where there is no header */
 #define RVN_VERDICT_RECORD 1 /* 0: how many command records there are. 255, 15, 17: the number of the record; the header is 0 */
 #define RVN_VERDICT_TAPE 2   /* 255: the tape's answer, code + 256 * running + 65536 * released, as rvn_step's. Else 0 */
 #define RVN_VERDICT_RULES 3  /* 255: the rules' answer to the same command, packed as the tape's, and another than it. Else 0 */

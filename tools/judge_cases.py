@@ -1,7 +1,7 @@
 #!/usr/bin/env python3
 """Makes the stored tapes of crates/judge_cases and, by the second program, what must be printed for them.
 
-    python3 tools/judge_cases.py            write crates/judge_cases/data/NN.tape and crates/judge_cases/stdout
+    python3 tools/judge_cases.py            write crates/judge_cases/data/NNN.tape and crates/judge_cases/stdout
     python3 tools/judge_cases.py --check    compare them with what is stored; exit status 1 on a difference
 
 The tapes are those below, made by hand with their verdicts, and some of second/bin/make_tape, by their numbers; what is printed for them is what
@@ -22,6 +22,8 @@ MARK = b'RV'
 MADE = (327, 470, 1303, 1849, 658, 1909, 379, 319, 1658, 614, 446, 1496, 305, 3, 7, 22, 33, 45, 53, 61, 63)
 # A tape of that many right command records, so that it is longer than what any program reads in one piece: its number, and their count.
 LONG = (49, 4200)
+# The same of more than two pieces of 64 KiB, and the record of its third piece that is spoilt in two more.
+LONGER, SPOILT = (49, 8600), 8501
 
 
 # ---- Tapes made by hand
@@ -60,7 +62,7 @@ def agrees(count, seed=1):
 
 
 def refused(number, record_number, seed=1):
-    return f'seed {seed if record_number else 0}\nrefused {number} at record {record_number}, byte {16 * record_number}\n'
+    return f'seed {seed if record_number or number == 17 else 0}\nrefused {number} at record {record_number}, byte {16 * record_number}\n'
 
 
 def differs(number, command, tape, rules):
@@ -98,7 +100,7 @@ def bad_headers():
     yield header(1, edition=0) + behind, refused(15, 0)
     yield header(1, edition=2) + behind, refused(15, 0)
     for seed in (0, 2**32, 2**32 + 1, 2**63, 2**64 - 1):
-        yield header(seed) + behind, refused(17, 0)
+        yield header(seed) + behind, refused(17, 0, seed)
     yield header(0, edition=2), refused(15, 0)                                   # 17 is of a header else right
     yield behind, refused(15, 0)
 
@@ -178,6 +180,7 @@ def reached(tape, printed):
         names, right = difference(verdict)
     names.add(f'{len(tape) % 16} bytes over')
     names |= {f'over {size} bytes' for size in (4096, 65536) if len(tape) > size and right * 16 > size}
+    names |= {f'{words[0]} behind 131072 bytes'} if right * 16 > 131072 else set()
     for number in range(1, right + 1):
         op, a, b, code, running, released, value = struct.unpack('<6BQ', tape[16 * number + 2:16 * number + 16])
         names |= {f'op {op} code {code}', f'running {running}'} | ({f'op {op} releases', f'released {released}'} if released else set())
@@ -193,6 +196,7 @@ def wanted():
     names |= {f'differs with rules code {code}' for code in (0, 2, 3, 4, 5, 6, 7, 8, 9, 10, 12, 13)}
     names |= {'differs in ' + parts for parts in ('code', 'running', 'released', 'code and running', 'code and released', 'running and released',
                                                   'code and running and released')}
+    names |= {f'{verdict} behind 131072 bytes' for verdict in ('agrees:', 'differs', 'refused')}
     return names | {'agrees', 'refused 15 at record 0', 'refused 15 behind', 'refused 17 at record 0', 'over 4096 bytes', 'over 65536 bytes'}
 
 
@@ -213,14 +217,23 @@ def test_by_hand():
             sys.exit(f'judge_cases: the second program says {said!r} of the tape {tape.hex()}, which is to be {verdict!r}')
 
 
+def long_tapes():
+    """A right one of more than one piece, one of more than two; that with another running task, and without its mark, at a record of the third piece."""
+    yield run('make_tape', str(LONG[0]), 'right', str(LONG[1]))
+    tape = run('make_tape', str(LONGER[0]), 'right', str(LONGER[1]))
+    yield tape
+    yield changed(tape, (16 * SPOILT + 6, tape[16 * SPOILT + 6] ^ 1))
+    yield changed(tape, (16 * SPOILT, 0))
+
+
 def made():
     test_by_hand()
-    tapes = [tape for tape, _ in by_hand()] + [run('make_tape', str(number)) for number in MADE] + [run('make_tape', str(LONG[0]), 'right', str(LONG[1]))]
-    if len(tapes) > 100:
-        sys.exit(f'judge_cases: {len(tapes)} tapes, and their numbers have two digits')
+    tapes = [tape for tape, _ in by_hand()] + [run('make_tape', str(number)) for number in MADE] + list(long_tapes())
+    if len(tapes) > 1000:
+        sys.exit(f'judge_cases: {len(tapes)} tapes, and their numbers have three digits')
     files, printed, seen = {}, [], set()
     for i, tape in enumerate(tapes):
-        name = f'{i:02}.tape'
+        name = f'{i:03}.tape'
         files[CRATE / 'data' / name] = tape
         said = run('judge2', given=tape)
         seen |= reached(tape, said)

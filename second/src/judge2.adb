@@ -93,8 +93,8 @@ procedure Judge2 is
       Put_Line (Verdict);
    end Say;
 
-   --  The seed is that of a header that the reader takes; without one it is
-   --  0, which is no seed.
+   --  The seed is that of the header, of one that is refused for its seed too;
+   --  without a header it is 0.
    procedure Judge is
       Bytes   : Record_Bytes;
       Length  : Natural;
@@ -103,10 +103,11 @@ procedure Judge2 is
       Next_Record (Bytes, Length);
       Refusal := (if Length < Record_Length then Bad_Record
                   else Refusal_Of_Header (Bytes));
-      if Refusal /= Accepted then
-         Say (Seed => 0, Verdict => Refused (Refusal, Number => 0));
-      else
+      if Refusal = Accepted then
          Say (Fields_Of (Bytes).Value, Verdict_On_Commands);
+      else
+         Say ((if Refusal = Bad_Seed then Fields_Of (Bytes).Value else 0),
+              Refused (Refusal, Number => 0));
       end if;
    end Judge;
 

@@ -15,7 +15,7 @@ use Rattle.judge_c.specs.declared.Reply.{Reply}
 abbrev pub packed : Answer → ℕ
 packed a = a .code + 256 * a .running .0 + 65536 * a .released .0
 
--- The call's answer: 0 where the tape agrees, 255 where it differs, 15 or 17 where it is refused. The four numbers: the header's seed; the count of
+-- The call's answer: 0 where the tape agrees, 255 where it differs, 15 or 17 where it is refused. The four numbers: the seed that is shown; the count of
 -- command records where it agrees, else the number of the record; the tape's answer and the rules' where it differs, else 0 and 0.
 abbrev pub told-of : ℕ → Verdict → Reply
 told-of seed (Agrees records) = record { code = 0; numbers = seed ∷ records ∷ 0 ∷ 0 ∷ [] }

@@ -18,7 +18,7 @@ use Rattle.judging.specs.declared.Stage.{Stage}
 use Rattle.judging.specs.declared.Stage.the-variants.{Going, Over}
 use Rattle.judging.specs.declared.Run.{Run}
 use Rattle.judging.specs.Verdict.{command-of, answer-on, shown, same, difference}
-use Rattle.judging.specs.Pieces.{beyond, refused-at, over, headed, compared, answered, taken, onward, at-end}
+use Rattle.judging.specs.Pieces.{beyond, refused-at, refused, over, headed, compared, answered, taken, onward, at-end}
 
 -- ---- a command record
 module _ (x : Run) (r : Record) (s : Stepped) (e : s ≡ steppedOf (x .kernel) (command-of r)) (t : Bool) (f : t ≡ same (shown (answer-on r)) (s .answer)) where
@@ -36,7 +36,7 @@ unfolding onward
 onward-over x p v e = rw e
 
 module _ (x : Run) (p : List ℕ) (g : x .stage ≡ Going) (c : ℕ) (e : c ≡ bytesFault (x .place) p) where
-  pub onward-refused : c ≢ 0 → over x (refused-at c (x .place)) ≡ onward x p
+  pub onward-refused : c ≢ 0 → refused x c (recordOf p .value) ≡ onward x p
   unfolding onward taken
   onward-refused n = rw (g, ← judged-not (x .place) p c e n)
 

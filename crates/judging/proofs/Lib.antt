@@ -1,5 +1,6 @@
 pub mod Words
 pub mod Theorems
+pub mod Numbers
 pub mod Worked
 pub mod Hearing
 pub mod Exits

@@ -1,35 +1,36 @@
 -- What a judgement says, in plain words, both ways, over every byte string: it agrees exactly where the tape is a header and command records whose answers
 -- are the rules' along the run of their commands from the fresh machine; it differs at n exactly where the records before n agree and n does not; it is
 -- refused exactly where the records before agree and the reader refuses the next. Every judgement is one of the three. A refusal is 15, or 17 at the header;
--- and the header's seed is shown, and not used.
+-- and the header's seed is shown, one that is refused too, and not used.
 -- Rules out: a judge that compares less than code, running and released, goes on behind a difference or a refusal, counts from elsewhere, or steps
 -- otherwise than by the rules. Assumes nothing.
 use Prim.Native.Nat.{ℕ, zero, suc, _+_, _-_, _*_, _≤_, _<_}
 use native.Mathlib.Omega.{arith}
 use mathlib.Core.Path.{_≡_, refl, sym, ap, _∙_}
 use mathlib.Core.Logic.{_≢_}
-use mathlib.Core.Bool.{Bool, true, false, cond, _&&_, true≢false}
+use mathlib.Core.Bool.{Bool, true, false, cond, not, _&&_, true≢false}
 use mathlib.Core.List.{List, [], _∷_, _++_, map, append-assoc, append-nil}
 use borrow.Author.Tests.{eq-eqb, ne-eqb, eqb-true, leb-true}
 use lib.Dec.{eqb, leb}
 use lib.ListN.{length, take, drop, getD, length-append, take-append-drop, drop-of-length-le}
-use lib.Seq.{drop-at, drop-drop}
+use lib.Seq.{take-at, drop-at, drop-drop, length-take-le}
 use Rattle.rules.specs.Machine.{Machine, Command, fresh}
 use Rattle.rules.specs.Run.{next, answer, run, answers}
 use Rattle.rules.specs.Run as R
 use Rattle.rules.proofs.Tests.{both-true}
 use Rattle.rules.proofs.Words.{All}
 use Rattle.record.specs.declared.Record.{Record}
-use Rattle.record.specs.Form.{bytesOf, headerOf, isSeed, headerFields, commandFields}
+use Rattle.record.specs.Form.{bytesOf, recordOf, headerOf, marked, isSeed, headerFields, commandFields}
 use Rattle.record.specs.Fault.{faultOf}
-use Rattle.record.proofs.RoundTrip.{sixteen-long}
+use Rattle.record.proofs.Faults.{own-fault}
+use Rattle.record.proofs.RoundTrip.{fields-back, bytes-spelt, sixteen-long, value-kept}
 use Rattle.tape.specs.declared.Read.{Read}
 use Rattle.tape.specs.declared.Read.the-variants.{Found, End, Refused}
-use Rattle.tape.specs.Read.{readOf, placeOf, nextAt}
+use Rattle.tape.specs.Read.{numberOf, readOf, judged, placeOf, nextAt}
 use Rattle.tape.specs.Run as T
 use Rattle.tape.specs.Run.{tapeOf}
-use Rattle.tape.proofs.Reading.{Stands, stands, found, end, no-record, no-seed}
-use Rattle.tape.proofs.RoundTrip.{found-there, IsThere, is-there}
+use Rattle.tape.proofs.Reading.{judged-not, read-judged, Stands, stands, found, end, no-record, no-seed}
+use Rattle.tape.proofs.RoundTrip.{part-small, found-there, IsThere, is-there}
 use Rattle.tape.proofs.Writing.{accepted}
 use Rattle.tape.proofs.Runs.{tape-long, end-there, end-place}
 use Rattle.tape.proofs.Answers.{place-moves}
@@ -38,8 +39,8 @@ use Rattle.judging.specs.declared.Verdict.the-variants.{Agrees, Differs,
 use Rattle.judging.specs.declared.Judgement.{Judgement}
 use Rattle.judging.specs.declared.Refusal.{Refusal}
 use Rattle.judging.specs.declared.Difference.{Difference}
-use Rattle.judging.specs.Verdict.{command-of, answer-on, shown, same, difference, judged-from, verdict-of}
-use Rattle.judging.proofs.Words.{CommandRecord, behind, Begins, AllAgree, FirstDiffers, FirstRefused, no-header, no-command, Says, RefusedWith, fifteen, seventeen}
+use Rattle.judging.specs.Verdict.{command-of, answer-on, shown, same, difference, seed-shown, judged-from, verdict-of}
+use Rattle.judging.proofs.Words.{CommandRecord, behind, Begins, AllAgree, FirstDiffers, FirstRefused, no-header, bad-seed, no-command, Says, RefusedWith, fifteen, seventeen}
 
 -- ---- two answers
 
@@ -146,10 +147,31 @@ differs-judged s seed d a =
     ∙ found-there (tapeOf (headerOf seed ∷ rs)) (a .rest) (16 * suc (length rs)) r l (omega arith) (command-right (16 * suc (length rs)) r (λ z. omega arith) (a .command .0)) (a .command .1) in
     then s seed rs (bytesOf r ++ a .rest) (a .begins) (Found r (16 * suc (length rs) + 16)) e ∙ rw (n, ne-eqb (suc (length rs)) 0 (λ z. omega arith), a .told)
 
+-- a header whose value is no seed
+module _ (s : List ℕ) (value : ℕ) (rest : List ℕ) (e : s ≡ bytesOf (headerOf value) ++ rest) (small : value < 18446744073709551616) where
+  at-first : take 16 s ≡ bytesOf (headerOf value)
+  at-first = ap (λ (l : List ℕ). take 16 l) e ∙ take-at (bytesOf (headerOf value)) rest 16 (sixteen-long (headerOf value))
+
+  bad-value : recordOf (take 16 s) .value ≡ value
+  bad-value = ap (λ (l : List ℕ). recordOf l .value) at-first ∙ ap (λ (r : Record). r .value) (fields-back (headerOf value) small)
+
+  bad-fault : isSeed value ≡ false → faultOf 0 (headerOf value) ≡ 17
+  unfolding faultOf
+  bad-fault n = rw n
+
+  bad-read : isSeed value ≡ false → readOf s 0 ≡ Refused 17
+  bad-read n =
+      let l : 16 ≤ length s = rw (e, length-append (bytesOf (headerOf value)) rest, sixteen-long (headerOf value)) (omega arith) in
+      sym (read-judged s 0 refl (omega arith) (λ q. omega arith) l) ∙ ap (judged 0) at-first
+      ∙ sym (judged-not 0 (bytesOf (headerOf value)) 17 (sym (own-fault 0 (headerOf value) small ∙ bad-fault n)) (λ q. omega arith))
+
 stops-judged : (s : List ℕ) (seed : ℕ) (e : Refusal) → FirstRefused s seed e → verdict-of s ≡ record { seed = seed; verdict = Malformed e }
 unfolding judged-from verdict-of
-stops-judged s seed e (no-header c h) = rw (one-read (suc (length s)) s 0 (Refused c) (omega arith) h)
-stops-judged s seed e (no-command c seed′ rs rest b h) = then s seed′ rs rest b (Refused c) h
+stops-judged s seed e (no-header h) = rw (one-read (suc (length s)) s 0 (Refused 15) (omega arith) h, h)
+stops-judged s seed e (bad-seed value rest q l n) =
+    let h = bad-read s value rest q l n in
+    rw (one-read (suc (length s)) s 0 (Refused 17) (omega arith) h, h, bad-value s value rest q l)
+stops-judged s seed e (no-command seed′ rs rest b h) = then s seed′ rs rest b (Refused 15) h
 
 -- Whatever is said so of a tape is its judgement.
 pub says-judged : (s : List ℕ) (seed : ℕ) (v : Verdict) → Says s seed v → verdict-of s ≡ record { seed = seed; verdict = v }
@@ -191,6 +213,16 @@ command-fields at r n e = go (commandFields r) (rw (ne-eqb at 0 n) at e)
     go : (t : Bool) → cond {A = ℕ} t 0 15 ≡ 0 → t ≡ true
     go true z = refl
     go false z = absurd (omega arith)
+
+-- behind the header a refusal is 15
+refused-behind : (s : List ℕ) (at c : ℕ) → at ≢ 0 → readOf s at ≡ Refused c → c ≡ 15
+refused-behind s at c n = go (stands s at)
+  where
+    go : {x : Read} → Stands s at x → x ≡ Refused c → c ≡ 15
+    go (found w l f) e = let q : _≡_ {A = ℕ} 0 1 = cc in absurd (omega arith)
+    go (end w l f) e = let q : _≡_ {A = ℕ} 0 1 = cc in absurd (omega arith)
+    go no-record e = let q : c ≡ 15 = cc in q
+    go (no-seed a l) e = absurd (n a)
 
 module _ (s : List ℕ) (small : (i : ℕ) → getD s i 0 < 256) where
   module _ (seed : ℕ) (rs : List Record) (rest : List ℕ) (b : Begins s seed rs rest) where
@@ -257,7 +289,7 @@ module _ (s : List ℕ) (small : (i : ℕ) → getD s i 0 < 256) where
 
       by-read : (x : Read) → readOf s (16 * suc (length rs)) ≡ x → Spoken s (judged-from (behind rs) (suc (length rs)) seed (x ∷ T.answers f s (placeOf (16 * suc (length rs)) x)))
       unfolding judged-from
-      by-read (Refused c) e = no-command c seed rs rest b e
+      by-read (Refused c) e = let q = refused-behind s (16 * suc (length rs)) c (λ z. omega arith) e in rw q (no-command seed rs rest b (rw q at e))
       by-read End e = let q : suc (length rs) - 1 ≡ length rs = omega arith in rw q (at-end e)
       by-read (Found r at) e = rw (ne-eqb (suc (length rs)) 0 (λ z. omega arith)) (either r at e (same (shown (answer-on r)) (shown (answer (behind rs) (command-of r)))) refl)
 
@@ -306,14 +338,50 @@ header-begins s small r at e =
       agree = refl;
     }
 
+-- 17: 16 bytes that are a header else right
+record BadSeed (p : List ℕ) : Type 0 where
+  mark : marked p ≡ true
+  fields : headerFields (recordOf p) ≡ true
+  value : isSeed (recordOf p .value) ≡ false
+
+seventeen-bytes : (p : List ℕ) → judged 0 p ≡ Refused 17 → BadSeed p
+unfolding judged
+seventeen-bytes p = go (marked p) refl (headerFields (recordOf p)) refl (isSeed (recordOf p .value)) refl
+  where
+    go : (m : Bool) → marked p ≡ m → (h : Bool) → headerFields (recordOf p) ≡ h → (v : Bool) → isSeed (recordOf p .value) ≡ v
+        → cond (m && h && v) (Found (recordOf p) 16) (cond (m && h && not v) (Refused 17) (Refused 15)) ≡ Refused 17 → BadSeed p
+    go true em true eh false ev e = record { mark = em; fields = eh; value = ev }
+    go true em true eh true ev e = let q : _≡_ {A = ℕ} 0 1 = cc in absurd (omega arith)
+    go true em false eh v ev e = let q : _≡_ {A = ℕ} 15 17 = cc in absurd (omega arith)
+    go false em h eh v ev e = let q : _≡_ {A = ℕ} 15 17 = cc in absurd (omega arith)
+
+header-refused : (s : List ℕ) (small : (i : ℕ) → getD s i 0 < 256) (c : ℕ) → readOf s 0 ≡ Refused c
+    → FirstRefused s (seed-shown c (recordOf (take 16 s) .value) 0) (record { code = c; number = 0; place = 0 })
+header-refused s small c e = go (stands s 0) e
+  where
+    p : List ℕ
+    p = take 16 s
+
+    bad : 16 ≤ length s → readOf s 0 ≡ Refused 17 → FirstRefused s (recordOf p .value) (record { code = 17; number = 0; place = 0 })
+    bad l q =
+        let k = seventeen-bytes p (read-judged s 0 refl (omega arith) (λ z. omega arith) l ∙ q) in
+        let b : bytesOf (headerOf (recordOf p .value)) ≡ p = ap bytesOf (sym (header-is (recordOf p) (k .fields))) ∙ bytes-spelt p (length-take-le 16 s l) (part-small s small 0) (k .mark) in
+        bad-seed (recordOf p .value) (drop 16 s) (sym (take-append-drop 16 s) ∙ ap (λ (x : List ℕ). x ++ drop 16 s) (sym b)) (value-kept p (part-small s small 0)) (k .value)
+
+    go : {x : Read} → Stands s 0 x → x ≡ Refused c → FirstRefused s (seed-shown c (recordOf p .value) 0) (record { code = c; number = 0; place = 0 })
+    go (found w l f) q = let z : _≡_ {A = ℕ} 0 1 = cc in absurd (omega arith)
+    go (end w l f) q = let z : _≡_ {A = ℕ} 0 1 = cc in absurd (omega arith)
+    go no-record q = let z : c ≡ 15 = cc in rw z (no-header (rw z at e))
+    go (no-seed a l) q = let z : c ≡ 17 = cc in rw z (bad l (rw z at e))
+
 -- Of every byte string, the judgement is what it says: one of the three.
 -- (Numbers below 256: a byte string. The other way needs no such premise.)
 pub judged-says : (s : List ℕ) → ((i : ℕ) → getD s i 0 < 256) → Says s (verdict-of s .seed) (verdict-of s .verdict)
 unfolding verdict-of judged-from nextAt run
 judged-says s small = go (readOf s 0) refl
   where
-    go : (x : Read) → readOf s 0 ≡ x → Spoken s (judged-from fresh 0 0 (x ∷ T.answers (length s) s (placeOf 0 x)))
-    go (Refused c) e = no-header c e
+    go : (x : Read) → readOf s 0 ≡ x → Spoken s (judged-from fresh 0 (seed-shown (numberOf x) (recordOf (take 16 s) .value) 0) (x ∷ T.answers (length s) s (placeOf 0 x)))
+    go (Refused c) e = header-refused s small c e
     go End e = let p = end-place s 0 e in absurd (omega arith)
     go (Found r at) e =
         let k = is-there s small 0 r at e in
@@ -323,18 +391,10 @@ judged-says s small = go (readOf s 0) refl
 
 -- ---- the number of a refusal
 
-refusal-number : (s : List ℕ) (at c n p : ℕ) → (at ≡ 0 → n ≡ 0) → readOf s at ≡ Refused c → RefusedWith (record { code = c; number = n; place = p })
-refusal-number s at c n p z = go (stands s at)
-  where
-    go : {x : Read} → Stands s at x → x ≡ Refused c → RefusedWith (record { code = c; number = n; place = p })
-    go (found w l f) e = let q : _≡_ {A = ℕ} 0 1 = cc in absurd (omega arith)
-    go (end w l f) e = let q : _≡_ {A = ℕ} 0 1 = cc in absurd (omega arith)
-    go no-record e = let q : c ≡ 15 = cc in fifteen q
-    go (no-seed a l) e = let q : c ≡ 17 = cc in seventeen q (z a)
-
 stops-number : (s : List ℕ) (seed : ℕ) (e : Refusal) → FirstRefused s seed e → RefusedWith e
-stops-number s seed e (no-header c h) = refusal-number s 0 c 0 0 (λ z. refl) h
-stops-number s seed e (no-command c seed′ rs rest b h) = refusal-number s (16 * suc (length rs)) c (suc (length rs)) (16 * suc (length rs)) (λ z. absurd (omega arith)) h
+stops-number s seed e (no-header h) = fifteen refl
+stops-number s seed e (bad-seed value rest q l n) = seventeen refl refl
+stops-number s seed e (no-command seed′ rs rest b h) = fifteen refl
 
 -- Where a byte string is refused the number is 15, or it is 17 and the record is the header.
 pub refused-number : (s : List ℕ) → ((i : ℕ) → getD s i 0 < 256) → (e : Refusal) → verdict-of s .verdict ≡ Malformed e → RefusedWith e

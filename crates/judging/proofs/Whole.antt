@@ -4,6 +4,7 @@ use Prim.Native.Nat.{ℕ, zero, suc, _+_, _-_, _*_, _/_, _%_, _≤_, _<_, min}
 use native.Mathlib.Nat.{min-eq-right}
 use native.Mathlib.Omega.{arith}
 use mathlib.Core.Path.{_≡_, refl, sym, ap, _∙_}
+use mathlib.Core.Logic.{_≢_}
 use mathlib.Core.Bool.{Bool, true, false, cond, _||_, true≢false}
 use mathlib.Core.List.{List, [], _∷_, _++_, append-assoc}
 use borrow.Author.Tests.{eq-eqb, ne-eqb, lt-ltb, le-ltb, ltb-true, ltb-false, eqb-true, eqb-false}
@@ -20,7 +21,7 @@ use Rattle.record.specs.declared.Record.{Record}
 use Rattle.record.specs.Form.{recordOf}
 use Rattle.tape.specs.declared.Read.{Read}
 use Rattle.tape.specs.declared.Read.the-variants.{Found, End, Refused}
-use Rattle.tape.specs.Read.{readOf, judged, endOf, placeOf, nextAt}
+use Rattle.tape.specs.Read.{numberOf, readOf, judged, endOf, placeOf, nextAt}
 use Rattle.tape.specs.Run.{answers}
 use Rattle.tape.proofs.Reading.{Stands, stands, found, end, no-record, no-seed, sixteen, read-end, read-short, read-judged}
 use Rattle.judging.specs.declared.Verdict.{Verdict}
@@ -30,8 +31,8 @@ use Rattle.judging.specs.declared.Stage.the-variants.{Going, Over}
 use Rattle.judging.specs.declared.Stage.{Stage}
 use Rattle.judging.specs.declared.Run.{Run}
 use Rattle.judging.specs.declared.Judge.{Judge}
-use Rattle.judging.specs.Verdict.{command-of, answer-on, shown, same, difference, judged-from, verdict-of}
-use Rattle.judging.specs.Pieces.{to-come, beyond, refused-at, over, headed, compared, answered, taken, onward, Heard, byte, bytes, heard, kept, at-first, fed, ended, judged-in, joined}
+use Rattle.judging.specs.Verdict.{command-of, answer-on, shown, same, difference, seed-shown, judged-from, verdict-of}
+use Rattle.judging.specs.Pieces.{to-come, beyond, refused-at, refused, over, headed, compared, answered, taken, onward, Heard, byte, bytes, heard, kept, at-first, fed, ended, judged-in, joined}
 use Rattle.judging.proofs.Hearing.{bytes-append, bytes-short, bytes-begun, few-begun, take-pad}
 use Rattle.judging.proofs.Exits.{onward-over}
 
@@ -87,14 +88,28 @@ or-true false = refl
 abbrev said : Machine → ℕ → ℕ → List ℕ → Judgement
 said m n seed back = ended (kept (bytes (record { run = going m n seed; begun = [] }) back))
 
+-- the seed that is shown if the record at a place is refused
+abbrev seed-at : List ℕ → ℕ → ℕ → ℕ
+seed-at s at seed = seed-shown (numberOf (readOf s at)) (recordOf (take 16 (drop at s)) .value) seed
+
+-- behind the header it is the header's
+seed-behind : (s : List ℕ) (at seed : ℕ) → at ≢ 0 → seed-at s at seed ≡ seed
+seed-behind s at seed n = go (stands s at)
+  where
+    go : {x : Read} → Stands s at x → seed-shown (numberOf x) (recordOf (take 16 (drop at s)) .value) seed ≡ seed
+    go (found w l f) = refl
+    go (end w l f) = refl
+    go no-record = refl
+    go (no-seed z l) = absurd (n z)
+
 abbrev Tied : ℕ → Type 0
 Tied f =
     (m : Machine) → Sound m → (n seed : ℕ) (front back : List ℕ) → length front ≡ 16 * n → length front + length back < 18446744073709551616 → length back < f
-    → said m n seed back ≡ judged-from m n seed (answers f (front ++ back) (16 * n))
+    → said m n seed back ≡ judged-from m n (seed-at (front ++ back) (16 * n) seed) (answers f (front ++ back) (16 * n))
 
 module _ (m : Machine) (n seed : ℕ) where
-  refused-said : (c : ℕ) (q : List ℕ) → ended (kept (bytes (record { run = over (going m n seed) (refused-at c (16 * n)); begun = [] }) q)) ≡ record { seed = seed; verdict = Malformed (record { code = c; number = n; place = 16 * n }) }
-  refused-said c q = over-said (over (going m n seed) (refused-at c (16 * n))) q (refused-at c (16 * n)) refl ∙ rw (sixteenth n)
+  refused-said : (c v : ℕ) (q : List ℕ) → ended (kept (bytes (record { run = refused (going m n seed) c v; begun = [] }) q)) ≡ record { seed = seed-shown c v seed; verdict = Malformed (record { code = c; number = n; place = 16 * n }) }
+  refused-said c v q = over-said (refused (going m n seed) c v) q (refused-at c (16 * n)) refl ∙ rw (sixteenth n)
 
   cut-said : (back : List ℕ) → 1 ≤ length back → length back ≤ 15 → said m n seed back ≡ record { seed = seed; verdict = Malformed (record { code = 15; number = n; place = 16 * n }) }
   unfolding ended
@@ -117,11 +132,11 @@ answered-is m s n seed r o =
     let b : beyond (16 * n) ≡ 16 * suc n = rw (lt-ltb (16 * n) 18446744073709551600 o) (omega arith) in
     rw (stepped-tie m s (command-of r), b, sixteenth n)
 
-end-read : (m : Machine) (n seed : ℕ) (t : Bool) (l : List Read)
-    → judged-from m n seed (cond t (Refused 15) End ∷ l) ≡ record { seed = seed; verdict = cond t (Malformed (record { code = 15; number = n; place = 16 * n })) (Agrees (n - 1)) }
+end-read : (m : Machine) (n seed v : ℕ) (t : Bool) (l : List Read)
+    → judged-from m n (seed-shown (numberOf (cond t (Refused 15) End)) v seed) (cond t (Refused 15) End ∷ l) ≡ record { seed = seed; verdict = cond t (Malformed (record { code = 15; number = n; place = 16 * n })) (Agrees (n - 1)) }
 unfolding judged-from
-end-read m n seed true l = refl
-end-read m n seed false l = refl
+end-read m n seed v true l = refl
+end-read m n seed v false l = refl
 
 same-zero : (x n : ℕ) → x ≡ 16 * n → eqb x 0 ≡ eqb n 0
 same-zero x zero e = eq-eqb x 0 e
@@ -139,15 +154,15 @@ module _ (f : ℕ) (ih : Tied f) (m : Machine) (snd : Sound m) (n seed : ℕ) (f
   straight = omega arith
 
   -- no byte is left
-  none : length back ≡ 0 → said m n seed back ≡ judged-from m n seed (answers (suc f) (front ++ back) (16 * n))
+  none : length back ≡ 0 → said m n seed back ≡ judged-from m n (seed-at (front ++ back) (16 * n) seed) (answers (suc f) (front ++ back) (16 * n))
   unfolding endOf
   none z =
       let l : length (front ++ back) ≡ 16 * n = long ∙ omega arith in
-      rw (← read-end (front ++ back) (16 * n) straight (omega arith) (sym l), same-zero (length (front ++ back)) n l, end-read m n seed (eqb n 0) (answers f (front ++ back) (nextAt (front ++ back) (16 * n))))
+      rw (← read-end (front ++ back) (16 * n) straight (omega arith) (sym l), same-zero (length (front ++ back)) n l, end-read m n seed (recordOf (take 16 (drop (16 * n) (front ++ back))) .value) (eqb n 0) (answers f (front ++ back) (nextAt (front ++ back) (16 * n))))
       (ap (said m n seed) (no-byte back z) ∙ end-said m n seed)
 
   -- a record that is not whole
-  cut : 1 ≤ length back → length back ≤ 15 → said m n seed back ≡ judged-from m n seed (answers (suc f) (front ++ back) (16 * n))
+  cut : 1 ≤ length back → length back ≤ 15 → said m n seed back ≡ judged-from m n (seed-at (front ++ back) (16 * n) seed) (answers (suc f) (front ++ back) (16 * n))
   unfolding judged-from
   cut k l = rw (← read-short (front ++ back) (16 * n) straight (rw long (omega arith)) (λ q. omega (arith, long)) (rw long (omega arith))) (cut-said m n seed back k l)
 
@@ -163,7 +178,8 @@ module _ (f : ℕ) (ih : Tied f) (m : Machine) (snd : Sound m) (n seed : ℕ) (f
         let t : length (take 16 back) ≡ 16 = length-take-le 16 back k in
         let d : length (drop 16 back) ≡ length back - 16 = length-drop 16 back in
         let l : length (front ++ take 16 back) ≡ 16 * suc n = length-append front (take 16 back) ∙ omega arith in
-        rw (at, again) (ih m′ s′ (suc n) v (front ++ take 16 back) (drop 16 back) l (omega arith) (omega arith))
+        let b = seed-behind ((front ++ take 16 back) ++ drop 16 back) (16 * suc n) v (λ z. omega arith) in
+        rw (at, again) (rw b at (ih m′ s′ (suc n) v (front ++ take 16 back) (drop 16 back) l (omega arith) (omega arith)))
 
     command-said : (r : Record) (a : Command) (t : Bool) (d : Verdict)
         → ended (kept (bytes (record { run = cond t (going (next m a) (suc n) seed) (over (going m n seed) d); begun = [] }) (drop 16 back)))
@@ -172,7 +188,7 @@ module _ (f : ℕ) (ih : Tied f) (m : Machine) (snd : Sound m) (n seed : ℕ) (f
     command-said r a false d = over-said (over (going m n seed) d) (drop 16 back) d refl
 
     found-said : (r : Record)
-        → ended (kept (bytes (record { run = taken (going m n seed) (Found r (16 * n + 16)); begun = [] }) (drop 16 back)))
+        → ended (kept (bytes (record { run = taken (going m n seed) (take 16 back) (Found r (16 * n + 16)); begun = [] }) (drop 16 back)))
         ≡ judged-from m n seed (Found r (16 * n + 16) ∷ answers f (front ++ back) (16 * n + 16))
     unfolding taken judged-from
     found-said r = rw (same-zero (16 * n) n refl) (go (eqb n 0) refl)
@@ -190,30 +206,31 @@ module _ (f : ℕ) (ih : Tied f) (m : Machine) (snd : Sound m) (n seed : ℕ) (f
             (command-said r (command-of r) (same (shown (answer-on r)) (shown (answer m (command-of r)))) (difference n r (shown (answer m (command-of r)))))
 
     turned : {v : Read} → Stands (front ++ back) (16 * n) v
-        → ended (kept (bytes (record { run = taken (going m n seed) v; begun = [] }) (drop 16 back))) ≡ judged-from m n seed (v ∷ answers f (front ++ back) (placeOf (16 * n) v))
+        → ended (kept (bytes (record { run = taken (going m n seed) (take 16 back) v; begun = [] }) (drop 16 back)))
+        ≡ judged-from m n (seed-shown (numberOf v) (recordOf (take 16 back) .value) seed) (v ∷ answers f (front ++ back) (placeOf (16 * n) v))
     unfolding taken judged-from
     turned (found w l z) = found-said (recordOf (take 16 (drop (16 * n) (front ++ back))))
     turned (end w l z) = absurd (omega (arith, long))
-    turned no-record = refused-said m n seed 15 (drop 16 back)
-    turned (no-seed z l) = refused-said m n seed 17 (drop 16 back)
+    turned no-record = refused-said m n seed 15 (recordOf (take 16 back) .value) (drop 16 back)
+    turned (no-seed z l) = refused-said m n seed 17 (recordOf (take 16 back) .value) (drop 16 back)
 
-    onward-is : (p : List ℕ) → onward (going m n seed) p ≡ taken (going m n seed) (judged (16 * n) p)
+    onward-is : (p : List ℕ) → onward (going m n seed) p ≡ taken (going m n seed) p (judged (16 * n) p)
     unfolding onward
     onward-is p = refl
 
-    whole : said m n seed back ≡ judged-from m n seed (answers (suc f) (front ++ back) (16 * n))
+    whole : said m n seed back ≡ judged-from m n (seed-at (front ++ back) (16 * n) seed) (answers (suc f) (front ++ back) (16 * n))
     unfolding nextAt
     whole =
         let here : take 16 (drop (16 * n) (front ++ back)) ≡ take 16 back = ap (λ (l : List ℕ). take 16 l) (drop-at front back (16 * n) e) in
         let reads : judged (16 * n) (take 16 back) ≡ readOf (front ++ back) (16 * n) =
         ap (judged (16 * n)) (sym (sixteen (front ++ back) (16 * n) ∙ here))
         ∙ read-judged (front ++ back) (16 * n) straight (rw long (omega arith)) (λ q. omega (arith, long)) (rw long (omega arith)) in
-        rw (bytes-begun (going m n seed) [] back (omega arith) (omega arith), onward-is (take 16 back), reads) (turned (stands (front ++ back) (16 * n)))
+        rw (bytes-begun (going m n seed) [] back (omega arith) (omega arith), onward-is (take 16 back), reads, here) (turned (stands (front ++ back) (16 * n)))
 
-  by-size : said m n seed back ≡ judged-from m n seed (answers (suc f) (front ++ back) (16 * n))
+  by-size : said m n seed back ≡ judged-from m n (seed-at (front ++ back) (16 * n) seed) (answers (suc f) (front ++ back) (16 * n))
   by-size = go (ltb (length back) 16) refl (eqb (length back) 0) refl
     where
-      go : (b : Bool) → ltb (length back) 16 ≡ b → (z : Bool) → eqb (length back) 0 ≡ z → said m n seed back ≡ judged-from m n seed (answers (suc f) (front ++ back) (16 * n))
+      go : (b : Bool) → ltb (length back) 16 ≡ b → (z : Bool) → eqb (length back) 0 ≡ z → said m n seed back ≡ judged-from m n (seed-at (front ++ back) (16 * n) seed) (answers (suc f) (front ++ back) (16 * n))
       go false b z q = whole (ltb-false (length back) 16 b)
       go true b true q = none (eqb-true (length back) 0 q)
       go true b false q = let h : length back ≡ 0 → ⊥ = eqb-false (length back) 0 q in let l : length back < 16 = ltb-true (length back) 16 b in cut (omega arith) (omega arith)

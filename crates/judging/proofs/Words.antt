@@ -2,7 +2,7 @@
 use Prim.Native.Nat.{ℕ, suc, _*_, _<_}
 use mathlib.Core.Path.{_≡_}
 use mathlib.Core.Logic.{_≢_}
-use mathlib.Core.Bool.{true}
+use mathlib.Core.Bool.{true, false}
 use mathlib.Core.List.{List, [], _∷_, _++_, map}
 use lib.ListN.{length}
 use Rattle.rules.specs.Machine.{Machine, fresh}
@@ -50,11 +50,14 @@ pub record FirstDiffers (s : List ℕ) (seed : ℕ) (d : Difference) : Type 0 wh
   pub differs : answer-on r ≢ answer (behind records) (command-of r)
   pub told : d ≡ record { number = suc (length records); command = command-shown r; tape = shown (answer-on r); rules = shown (answer (behind records) (command-of r)) }
 
--- The first that is no record: all before it agree, and the reader answers 15 or 17 at its place.
+-- The first that is no record: there is no header (15), or one whose value is no seed (17), and then that value is shown; or all before it agree, and it is no
+-- command record (15).
 pub data FirstRefused (s : List ℕ) : ℕ → Refusal → Type 0 where
-  no-header : (c : ℕ) → readOf s 0 ≡ Refused c → FirstRefused s 0 (record { code = c; number = 0; place = 0 })
-  no-command : (c seed : ℕ) (records : List Record) (rest : List ℕ) → Begins s seed records rest → readOf s (16 * suc (length records)) ≡ Refused c
-      → FirstRefused s seed (record { code = c; number = suc (length records); place = 16 * suc (length records) })
+  no-header : readOf s 0 ≡ Refused 15 → FirstRefused s 0 (record { code = 15; number = 0; place = 0 })
+  bad-seed : (value : ℕ) (rest : List ℕ) → s ≡ bytesOf (headerOf value) ++ rest → value < 18446744073709551616 → isSeed value ≡ false
+      → FirstRefused s value (record { code = 17; number = 0; place = 0 })
+  no-command : (seed : ℕ) (records : List Record) (rest : List ℕ) → Begins s seed records rest → readOf s (16 * suc (length records)) ≡ Refused 15
+      → FirstRefused s seed (record { code = 15; number = suc (length records); place = 16 * suc (length records) })
 
 -- What a verdict says of a tape, with the seed that is shown.
 abbrev pub Says : List ℕ → ℕ → Verdict → Type 0

@@ -50,6 +50,20 @@ cmd op a b value = record { op = op; a = a; b = b; value = value }
 abbrev ans : ℕ → ℕ → ℕ → Answer
 ans code running released = record { code = code; running = record { 0 = running }; released = record { 0 = released } }
 
+-- a header whose value's eight bytes are these
+abbrev header-of : List ℕ → List ℕ
+header-of value = (82 ∷ 86 ∷ 0 ∷ 1 ∷ 0 ∷ 0 ∷ 0 ∷ 0 ∷ []) ++ value
+
+-- Of a header that is right but for its seed that is shown, and of no other: 2^32, a number of eight bytes, the largest; the edition 2, and a second header.
+pub seeds :
+    (verdict-of (header-of (0 ∷ 0 ∷ 0 ∷ 0 ∷ 1 ∷ 0 ∷ 0 ∷ 0 ∷ []) ++ sixteen 1 1 3 0 0 0 0) ≡ says 4294967296 (refused 17 0 0))
+    × (verdict-of (header-of (1 ∷ 2 ∷ 3 ∷ 4 ∷ 5 ∷ 6 ∷ 7 ∷ 8 ∷ [])) ≡ says 578437695752307201 (refused 17 0 0))
+    × (verdict-of (header-of (255 ∷ 255 ∷ 255 ∷ 255 ∷ 255 ∷ 255 ∷ 255 ∷ 255 ∷ [])) ≡ says 18446744073709551615 (refused 17 0 0))
+    × (verdict-of (82 ∷ 86 ∷ 0 ∷ 2 ∷ 0 ∷ 0 ∷ 0 ∷ 0 ∷ 9 ∷ 0 ∷ 0 ∷ 0 ∷ 1 ∷ 0 ∷ 0 ∷ 0 ∷ []) ≡ says 0 (refused 15 0 0))
+    × (verdict-of (header 7 ++ header-of (1 ∷ 2 ∷ 3 ∷ 4 ∷ 5 ∷ 6 ∷ 7 ∷ 8 ∷ [])) ≡ says 7 (refused 15 1 16))
+unfolding verdict-of judged-from readOf judged endOf nextAt recordOf
+seeds = (refl, refl, refl, refl, refl)
+
 -- No byte; a seed of 0; the header alone; the walk; its last record with released 0; a byte behind it; the start with another running task, behind which
 -- nothing is looked at; and a record without the mark.
 pub worked :

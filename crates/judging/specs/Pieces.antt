@@ -10,9 +10,10 @@ use Rattle.kernel.specs.declared.Stepped.{Stepped}
 use Rattle.kernel.specs.View.{encode, pad}
 use Rattle.kernel.specs.Step.{steppedOf}
 use Rattle.record.specs.declared.Record.{Record}
+use Rattle.record.specs.Form.{recordOf}
 use Rattle.tape.specs.declared.Read.{Read}
 use Rattle.tape.specs.declared.Read.the-variants.{Found, End, Refused}
-use Rattle.tape.specs.Read.{judged}
+use Rattle.tape.specs.Read.{judged as read}
 use Rattle.judging.specs.declared.Verdict.{Verdict}
 use Rattle.judging.specs.declared.Verdict.the-variants.{Agrees, Refused as Malformed}
 use Rattle.judging.specs.declared.Judgement.{Judgement}
@@ -20,7 +21,7 @@ use Rattle.judging.specs.declared.Stage.{Stage}
 use Rattle.judging.specs.declared.Stage.the-variants.{Going, Over}
 use Rattle.judging.specs.declared.Run.{Run}
 use Rattle.judging.specs.declared.Judge.{Judge}
-use Rattle.judging.specs.Verdict.{command-of, answer-on, shown, same, difference}
+use Rattle.judging.specs.Verdict.{command-of, answer-on, shown, same, difference, seed-shown}
 
 -- The place behind a record. (The last places of 64 bits are followed by themselves: no tape is so long.)
 abbrev pub beyond : ℕ → ℕ
@@ -33,6 +34,10 @@ refused-at code place = Malformed (record { code = code; number = place / 16; pl
 -- The verdict is there.
 abbrev pub over : Run → Verdict → Run
 over x v = record { kernel = x .kernel; place = x .place; seed = x .seed; stage = Over v }
+
+-- A record of that value is refused.
+abbrev pub refused : Run → ℕ → ℕ → Run
+refused x code value = record { kernel = x .kernel; place = x .place; seed = seed-shown code value (x .seed); stage = Over (refused-at code (x .place)) }
 
 -- A header: its seed is kept to be shown.
 abbrev pub headed : Run → ℕ → Run
@@ -48,11 +53,11 @@ compared x r s =
 unfoldable pub answered : Run → Record → Run
 answered x r = compared x r (steppedOf (x .kernel) (command-of r))
 
--- What the reader answers of 16 bytes at the place. (`judged` answers no End.)
-unfoldable pub taken : Run → Read → Run
-taken x (Found r next) = cond (eqb (x .place) 0) (headed x (r .value)) (answered x r)
-taken x End = x
-taken x (Refused c) = over x (refused-at c (x .place))
+-- 16 bytes at the place, and what the reader answers of them. (Of 16 bytes it answers no End.)
+unfoldable pub taken : Run → List ℕ → Read → Run
+taken x p (Found r next) = cond (eqb (x .place) 0) (headed x (r .value)) (answered x r)
+taken x p End = x
+taken x p (Refused c) = refused x c (recordOf p .value)
 
 -- whether a verdict is still to come
 abbrev pub to-come : Stage → Bool
@@ -66,7 +71,7 @@ if-going (Over v) x y = y
 
 -- The next 16 bytes; behind a verdict nothing is looked at.
 unfoldable pub onward : Run → List ℕ → Run
-onward x p = if-going (x .stage) (taken x (judged (x .place) p)) x
+onward x p = if-going (x .stage) (taken x p (read (x .place) p)) x
 
 -- A judge as a list has it: the run, and the bytes of a record that is not whole yet.
 pub record Heard : Type 0 where

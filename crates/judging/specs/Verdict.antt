@@ -4,15 +4,17 @@ use Prim.Native.Nat.{ℕ, suc, _-_, _*_}
 use mathlib.Core.Bool.{Bool, cond, _&&_}
 use mathlib.Core.List.{List, [], _∷_}
 use lib.Dec.{eqb}
-use lib.ListN.{length}
+use lib.ListN.{length, take}
 use Rattle.rules.specs.Machine.{Machine, Command, fresh}
 use Rattle.rules.specs.Run.{next, answer}
 use Rattle.rules.specs.Run as R
 use Rattle.kernel.specs.declared.command.Command as given
 use Rattle.kernel.specs.declared.command.Answer.{Answer}
 use Rattle.record.specs.declared.Record.{Record}
+use Rattle.record.specs.Form.{recordOf}
 use Rattle.tape.specs.declared.Read.{Read}
 use Rattle.tape.specs.declared.Read.the-variants.{Found, End, Refused}
+use Rattle.tape.specs.Read.{numberOf, readOf}
 use Rattle.tape.specs.Run.{answers}
 use Rattle.judging.specs.declared.Verdict.{Verdict}
 use Rattle.judging.specs.declared.Verdict.the-variants.{Agrees, Differs, Refused as Malformed}
@@ -42,13 +44,15 @@ same x y = eqb (x .code) (y .code) && eqb (x .running .0) (y .running .0) && eqb
 abbrev pub difference : ℕ → Record → Answer → Verdict
 difference n r a = Differs (record { number = n; command = command-shown r; tape = shown (answer-on r); rules = a })
 
--- The number of a verdict: 0 where the tape agrees, the paper's own where it is refused. (The paper has none for a difference: 255 is no refusal's, and is what the call from C answers.)
+-- The number of a verdict: 0 where the tape agrees, the paper's own where it is refused. (The paper has none for a difference. 255 is no refusal's,
+-- and is what the call from C answers.)
 abbrev pub number-of : Verdict → ℕ
 number-of (Agrees k) = 0
 number-of (Differs d) = 255
 number-of (Malformed e) = e .code
 
--- And its values: how many command records there are; the record's number, place and command, with the answer on the tape and the rules'; the record's number and place.
+-- And its values: how many command records there are; the record's number, place and command, with the answer on the tape and the rules'; the
+-- record's number and place.
 abbrev pub values-of : Verdict → List ℕ
 values-of (Agrees k) = k ∷ []
 values-of (Differs d) =
@@ -61,6 +65,11 @@ abbrev pub status-of : Verdict → ℕ
 status-of (Agrees k) = 0
 status-of (Differs d) = 1
 status-of (Malformed e) = 2
+
+-- The seed that is shown where a record has that number: of a header that is right but for its value (17) the value that stands there, else the
+-- seed so far.
+abbrev pub seed-shown : ℕ → ℕ → ℕ → ℕ
+seed-shown code value seed = cond (eqb code 17) value seed
 
 -- What a reader answers from record n on, m being the machine before it: a refusal is reported with the record's number and place; at the end all
 -- records agreed, the header not counted; the header is record 0, and its seed is shown and not used; a command record agrees with the rules, which
@@ -76,4 +85,4 @@ judged-from m n seed (Found r at ∷ l) =
 
 -- A whole tape, from the fresh machine. One answer more than bytes is asked for, so the end or a refusal is among them, and [] is never reached.
 unfoldable pub verdict-of : List ℕ → Judgement
-verdict-of s = judged-from fresh 0 0 (answers (suc (length s)) s 0)
+verdict-of s = judged-from fresh 0 (seed-shown (numberOf (readOf s 0)) (recordOf (take 16 s) .value) 0) (answers (suc (length s)) s 0)

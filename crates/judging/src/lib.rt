@@ -41,7 +41,7 @@ pub enum Verdict {
     Refused(Refusal),
 }
 
-// The header's seed, 0 where no header was read, and the verdict.
+// The header's seed, and the verdict. Of a header that is refused for its seed (17) that is shown too; where there is no header it is 0.
 pub struct Judgement {
     pub seed: u64,
     pub verdict: Verdict,
@@ -96,6 +96,12 @@ fn refused_at(code: u8, place: usize) -> Verdict
     })
 }
 
+fn seed_shown(code: u8, value: u64, seed: u64) -> u64
+    ensures { λ r. ⌜ r ≡ verdict.seed-shown code value seed ⌝ }
+{
+    if code == 17 { value } else { seed }
+}
+
 impl Run {
     fn over(self, v: Verdict) -> Run
         ensures { λ r. ⌜ r ≡ pieces.over self v ⌝ }
@@ -106,6 +112,18 @@ impl Run {
             place: self.place,
             seed: self.seed,
             stage: Stage::Over(v),
+        }
+    }
+
+    fn refused(self, code: u8, value: u64) -> Run
+        ensures { λ r. ⌜ r ≡ pieces.refused self code value ⌝ }
+    {
+        let kernel = self.kernel;
+        Run {
+            kernel,
+            place: self.place,
+            seed: seed_shown(code, value, self.seed),
+            stage: Stage::Over(refused_at(code, self.place)),
         }
     }
 
@@ -171,7 +189,7 @@ impl Run {
         let t = record_of(p);
         let code = choose(is_marked(p), fault(place, t), 15);
         if code != 0 {
-            return self.over(refused_at(code, place));
+            return self.refused(code, t.value);
         }
         if place == 0 {
             return self.headed(t.value);

@@ -108,7 +108,7 @@ pub record IsThere (s : List ℕ) (at : ℕ) (r : Record) (next : ℕ) : Type 0 
   pub bytes : take 16 (drop at s) ≡ bytesOf r
 
 module _ (s : List ℕ) (small : (i : ℕ) → getD s i 0 < 256) where
-  part-small : (at i : ℕ) → getD (take 16 (drop at s)) i 0 < 256
+  pub part-small : (at i : ℕ) → getD (take 16 (drop at s)) i 0 < 256
   part-small at i = go (ltb i 16) refl
     where
       go : (b : Bool) → ltb i 16 ≡ b → getD (take 16 (drop at s)) i 0 < 256

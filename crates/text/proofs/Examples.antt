@@ -45,11 +45,13 @@ first-lines : (first-line-of (bytes "seed 1 span 100 weights 10 10 10 10 10 10 1
 unfolding first-line-of settings-of seed-of text-next decimals-next decimal-next number-of shortest value-from before onward same fair judged refused-with
 first-lines = (refl, refl, refl, refl, refl)
 
--- the last line of the walk, and the drawn delay 39
+-- the last line of the walk, and the drawn delay 39; and of nine numbers no two of which are alike
 printed : (walk-line (record { n = 16; op = 8; a = 1; b = 1; value = 0; code = 0; running = 3; released = 1; clock = 10 }) ≡ bytes "16 8 0 3 1 10\n")
     × (draw-line (record { n = 6; op = 4; a = 0; b = 0; value = 39; code = 0; running = 1; released = 0; clock = 0 }) ≡ bytes "6 4 0 0 39 0 1 0 0\n")
+    × (walk-line (record { n = 21; op = 8; a = 3; b = 1; value = 70; code = 9; running = 14; released = 5; clock = 600 }) ≡ bytes "21 8 9 14 5 600\n")
+    × (draw-line (record { n = 21; op = 8; a = 3; b = 1; value = 70; code = 9; running = 14; released = 5; clock = 600 }) ≡ bytes "21 8 3 1 70 9 14 5 600\n")
 unfolding walk-line draw-line answer-fields decimal decimal-in
-printed = (refl, refl)
+printed = (refl, refl, refl, refl)
 
 -- a last line without a line end counts; a line end alone is one empty line; no byte is no line
 split : (lines (bytes "wake\n\nopen 1") ≡ bytes "wake" ∷ [] ∷ bytes "open 1" ∷ []) × (lines (bytes "\n") ≡ [] ∷ []) × (lines [] ≡ [])

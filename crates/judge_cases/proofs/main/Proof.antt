@@ -1,14 +1,14 @@
--- `judge_cases::main` is safe and ends: the number grows to 100 at most. Assumes nothing.
+-- `judge_cases::main` is safe and ends: the number grows to 200 at most. Assumes nothing.
 use Prim.Native.Nat.{_≤_, _-_}
 use borrow.Author.Needs.{needs}
 use Rattle.judge_cases.proofs.main.Statement.{statement}
 use Rattle.judge_cases.proofs.main.Tie as tie
 
 abbrev Inv-loop : tie.InvT-loop
-Inv-loop i₀ i = i ≤ 100
+Inv-loop i₀ i = i ≤ 200
 
 abbrev μ-loop : tie.MeasureT-loop
-μ-loop i₀ i = 100 - i
+μ-loop i₀ i = 200 - i
 
 loop-holds : tie.Need-loop-holds Inv-loop μ-loop
 loop-holds c = search needs

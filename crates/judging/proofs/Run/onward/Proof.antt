@@ -27,19 +27,16 @@ fault-requires c κs = search needs
 choose-requires : tie.Need-choose-requires
 choose-requires c κs = search needs
 
-refused-at-requires : tie.Need-refused-at-requires
-refused-at-requires c κs = search needs
-
-over-requires : tie.Need-over-requires
-over-requires c κs = search needs
+refused-requires : tie.Need-refused-requires
+refused-requires c κs = search needs
 
 returns-2 : tie.Need-returns-2
 returns-2 c =
-    let a = c .before .before .before .before .before .before .before .before .before .before .args in
-    let k = c .before .before .before in
+    let a = c .before .before .before .before .before .before .before .before .before .args in
+    let k = c .before .before in
     let e = number-so (a .self .place) (a .p .now) (k .choose .ensures) (k .before .before .is-marked .ensures) (k .before .fault .ensures) (k .before .before .before .record-of .ensures) in
-    let g = c .before .before .before .before .before .before .before .enum-told .given .1 in
-    rw (c .over .ensures, c .before .refused-at .ensures) (onward-refused (a .self) (a .p .now) g (k .choose .result) e (c .before .before .if1 .taken))
+    let g = c .before .before .before .before .before .before .enum-told .given .1 in
+    rw (c .refused .ensures, k .before .before .before .record-of .ensures) (onward-refused (a .self) (a .p .now) g (k .choose .result) e (c .before .if1 .taken))
 
 headed-requires : tie.Need-headed-requires
 headed-requires c κs = search needs
@@ -74,8 +71,7 @@ onward-spec =
     is-marked-requires
     fault-requires
     choose-requires
-    refused-at-requires
-    over-requires
+    refused-requires
     returns-2
     headed-requires
     returns-3

@@ -1,0 +1,16 @@
+-- `Run::refused` meets its contract. Assumes nothing.
+use borrow.Author.Needs.{needs}
+use Rattle.judging.proofs.Run.refused.Statement.{statement}
+use Rattle.judging.proofs.Run.refused.Tie as tie
+
+seed-shown-requires : tie.Need-seed-shown-requires
+seed-shown-requires c κs = search needs
+
+refused-at-requires : tie.Need-refused-at-requires
+refused-at-requires c κs = search needs
+
+returns : tie.Need-returns
+returns c = rw (c .refused-at .ensures, c .before .seed-shown .ensures)
+
+pub refused-spec : {M : Type 1} → statement M
+refused-spec = tie.close (tie.spec seed-shown-requires refused-at-requires returns)
