@@ -1,7 +1,7 @@
--- No second answer of the tape's public functions: of any buffer, tape, place and reader, only one answer meets the contract as the check states it, and only one contents
--- of the buffer and one reader is left behind. Rules out: a contract that leaves a code, a place, a part or a byte of the buffer open. Leaves: which answer it is (specs/);
--- and of a part that is handed back the ghost name of its borrow, which exists in proofs only: what is seen of it is its contents, its block and its offset there.
--- (The law: crate one_answer, proofs/Law.) Assumes nothing.
+-- No second answer of the tape's public functions: of any buffer, tape, place and reader, only one answer meets the contract as the check states it, and only
+-- one contents of the buffer and one reader is left behind. Rules out: a contract that leaves a code, a place, a part or a byte of the buffer open. Leaves:
+-- which answer it is (specs/); and of a part that is handed back the ghost name of its borrow, which exists in proofs only: what is seen of it is its
+-- contents, its block and its offset there. (The law: crate one_answer, proofs/Law.) Assumes nothing.
 use Prim.Native.Nat.{ℕ}
 use mathlib.Core.Path.{_≡_, sym, _∙_}
 use mathlib.Core.List.{List}
@@ -40,7 +40,8 @@ same-reader p q = cc
 one-reader : {t : RefT (List ℕ)} {n : ℕ} {r s : Reader} → (r .tape ≡ t) × (r .at ≡ n) → (s .tape ≡ t) × (s .at ≡ n) → r ≡ s
 one-reader p q = same-reader (p .0 ∙ sym (q .0)) (p .1 ∙ sym (q .1))
 
-one-next : (r : Reader) (p q : Part) (t u : Reader) → Next r p t → Next r q u → _≡_ {A = Seen × ℕ × Reader} (seen (p .bytes), p .code, t) (seen (q .bytes), q .code, u)
+one-next : (r : Reader) (p q : Part) (t u : Reader) → Next r p t → Next r q u
+    → _≡_ {A = Seen × ℕ × Reader} (seen (p .bytes), p .code, t) (seen (q .bytes), q .code, u)
 one-next r p q t u m n = same-three (each-of-three (m .0) (n .0)) (m .1 ∙ sym (n .1)) (one-reader (m .2, m .3) (n .2, n .3))
 
 module _ {M : Type 1} (𝓤 : URA M) (H : Heap 𝓤) (A : Atoms 𝓤) (mem : Memory → SProp 𝓤) (run : Routine → Fun 𝓤) where
