@@ -1,4 +1,4 @@
 pub mod Digits
 pub mod RoundTrip
 pub mod Faults
-pub mod Answers
+pub mod Single

@@ -7,7 +7,7 @@ use mathlib.Core.List.{List, [], _++_}
 use lib.ListN.{length, getD, List·getD-eq-default}
 use Rattle.decimal.specs.Decimal.{decimal}
 use Rattle.decimal.proofs.Stores as stores
-use Rattle.decimal.proofs.Single.{Puts}
+use Rattle.decimal.proofs.Stores.{Puts}
 use Rattle.decimal.proofs.BothWays.{decimal-most}
 use Rattle.text.specs.Commands.{words}
 use Rattle.text.proofs.Stores.{and-then}

@@ -1,6 +1,6 @@
 -- No second answer of session's public functions: of any arguments, only one answer meets the contract as the check states it, and of the buffer that is lent only one
 -- contents is left behind. Rules out: a contract that leaves a printed byte, or the state behind it, open. Leaves: which answer it is (specs/).
--- (The law: crate line, proofs/Single.) Assumes nothing.
+-- (The law: crate one_answer, proofs/Law.) Assumes nothing.
 use Prim.Native.Nat.{ℕ}
 use mathlib.Core.Path.{_≡_, sym, _∙_}
 use mathlib.Core.List.{List}
@@ -12,7 +12,7 @@ use prog.Wp.{Heap}
 use ghost.Atoms.{Atoms}
 use contract.Monad.{Fun}
 use denote.Ref.{now}
-use Rattle.line.proofs.Single.{OneAnswer, OneEnd, one, both}
+use Rattle.one_answer.proofs.Law.{OneAnswer, OneEnd, one, both}
 use Rattle.session.specs.declared.walk.Fed.{Fed}
 use Rattle.session.specs.declared.draw.Read.{Read}
 use Rattle.session.specs.declared.draw.Drew.{Drew}
