@@ -5,6 +5,7 @@ pub mod Feeding
 pub mod Drawing
 pub mod Theorems
 pub mod DrawWhole
+pub mod LongFirst
 pub mod Profiles
 pub mod Accepted
 pub mod Single

@@ -13,7 +13,7 @@ use Rattle.text.specs.FirstLine.{first-line-of, refused-with}
 use Rattle.text.specs.Lines.{kept}
 use Rattle.text.proofs.Parts.{too-long}
 
-opens-too-long : (l : List ℕ) → 128 < length l → first-line-of l ≡ refused-with 14
+pub opens-too-long : (l : List ℕ) → 128 < length l → first-line-of l ≡ refused-with 14
 unfolding first-line-of
 opens-too-long l h = rw (lt-leb (length l) 128 h)
 
