@@ -49,7 +49,7 @@ static int judge(const uint8_t *bytes)
     if (number == 0) {
         seed = r.value;
     } else {
-        answer rules = untested(&machine, (command){r.op, r.a, r.b, r.value});
+        answer rules = step_trusting(&machine, (command){r.op, r.a, r.b, r.value});
         if (rules != (r.code | (answer)r.running << 8 | (answer)r.released << 16))
             return differs(&r, rules);
     }

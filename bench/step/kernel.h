@@ -138,7 +138,7 @@ static void close_object(kernel *k) {
 }
 
 /* the step of a machine known to be sound */
-static answer untested(kernel *k, command c) {
+static answer step_trusting(kernel *k, command c) {
     unsigned code = refusal(k, c), r = k->ready[0], t = 0, i = 0;
     if (code) return code + 256 * (k->started ? r : 0);
     switch (c.op) {
@@ -187,6 +187,6 @@ static answer untested(kernel *k, command c) {
 }
 
 static inline answer step(kernel *k, command c) {
-    return sound(k) ? untested(k, c) : 1;
+    return sound(k) ? step_trusting(k, c) : 1;
 }
 #endif

@@ -6,4 +6,5 @@ pub mod Theorems
 pub mod Loops
 pub mod Tied
 pub mod Shipped
+pub mod Lent
 pub mod Single

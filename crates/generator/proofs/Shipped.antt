@@ -7,7 +7,7 @@ use mathlib.Core.Logic.{_≢_}
 use mathlib.Core.Bool.{Bool, true, false, cond, not}
 use mathlib.Core.List.{[], _∷_}
 use lib.Dec.{eqb}
-use borrow.Author.Tests.{eqb-true, ne-eqb}
+use borrow.Author.Tests.{eqb-true, eq-eqb, ne-eqb}
 use Rattle.rules.specs.Line.{at}
 use Rattle.rules.specs.Machine.{Machine, fresh}
 use Rattle.rules.specs.Machine as rules
@@ -28,8 +28,8 @@ use Rattle.generator.specs.declared.Profile.{Profile}
 use Rattle.generator.specs.declared.Drawn.{Drawn}
 use Rattle.generator.specs.Xorshift.{draw}
 use Rattle.generator.specs.Draw as draws
-use Rattle.generator.specs.Draw.{good-profile, draw-refusal, drawn}
-use Rattle.generator.specs.Public.{profileOf, toldDrawn, refusedOf, drawnIn, drawnOf, drawsOf}
+use Rattle.generator.specs.Draw.{good-profile, chosen, draw-refusal, drawn}
+use Rattle.generator.specs.Public.{profileOf, toldDrawn, refusedOf, madeOf, drawnIn, drawnOf, drawsOf}
 use Rattle.generator.proofs.Theorems.{drawn-is-fine, seed-left, refused-draw, seed-lives, drawn-delay}
 
 -- The two ways of a draw: of a sound state it is the draw of the machine; any other is refused with 1.
@@ -108,6 +108,20 @@ refused-leaves k seed p n = go (ways k seed p)
     go : Tested k seed p → drawnOf k seed p ≡ refusedOf (drawnOf k seed p .code) seed
     go (tested s q) = let w = refused-draw (view k) seed (profileOf p) (λ z. n (code-same q ∙ z)) in rw q (rw (w .0, w .1))
     go (unsound s q) = rw q
+
+-- A draw that is made answers the command that its three draws choose, one after another from the seed.
+-- Rules out: a draw made twice from one seed, and a command of other draws than the three that are left behind.
+drawn-by : (m : Machine) (seed : ℕ) (p : draws.Profile) → drawn m seed p .code ≡ 0
+    → drawn m seed p ≡ record { code = 0; command = chosen m p (draw seed) (draw (draw seed)) (draw (draw (draw seed))); seed = draw (draw (draw seed)) }
+unfolding drawn
+drawn-by m seed p z = rw (eq-eqb (draw-refusal m seed p) 0 (sym (drawn-code m seed p) ∙ z))
+
+pub drawn-made : (k : Kernel) (seed : ℕ) (p : Profile) → drawnOf k seed p .code ≡ 0 → drawnOf k seed p ≡ madeOf k p (draw seed) (draw (draw seed)) (draw (draw (draw seed)))
+drawn-made k seed p e = go (ways k seed p)
+  where
+    go : Tested k seed p → drawnOf k seed p ≡ madeOf k p (draw seed) (draw (draw seed)) (draw (draw (draw seed)))
+    go (tested s q) = q ∙ ap toldDrawn (drawn-by (view k) seed (profileOf p) (sym (code-same q) ∙ e))
+    go (unsound s q) = absurd (omega (arith, code-same q))
 
 -- A seed of 32 bits that is not 0 never dies: what is left behind is again such a seed.
 pub seed-never-dies : (k : Kernel) (seed : ℕ) (p : Profile) → seed < 2 ^ 32 → seed ≢ 0 → (drawnOf k seed p .seed < 2 ^ 32) × (drawnOf k seed p .seed ≢ 0)

@@ -2,26 +2,23 @@
 use Prim.Native.Nat.{ℕ, zero, suc, _+_, _-_, _%_, _≤_, _<_}
 use native.Mathlib.Omega.{arith}
 use mathlib.Core.Path.{_≡_, refl, sym, ap, subst, _∙_}
-use mathlib.Core.Logic.{_≢_}
 use mathlib.Core.Bool.{Bool, true, false, cond, not, _&&_}
 use mathlib.Core.List.{List, [], _∷_, map}
 use lib.Dec.{eqb, ltb}
 use lib.ListN.{length, getD, drop, drop-of-length-le}
 use lib.Seq.{drop-cons}
-use borrow.Author.Tests.{eqb-true, ltb-true, ltb-false, lt-ltb, le-ltb, ne-eqb, eq-eqb}
+use borrow.Author.Tests.{eqb-true, ltb-true, ltb-false, lt-ltb, le-ltb, ne-eqb}
 use Rattle.rules.specs.Line.{at, empty, front, rest}
 use Rattle.rules.specs.Machine.{Machine}
 use Rattle.rules.specs.Machine as rules
 use Rattle.kernel.specs.declared.Kernel.{Kernel}
 use Rattle.kernel.specs.declared.command.Command.{Command}
 use Rattle.kernel.specs.View.{view, with-idle, nobody-or}
-use Rattle.generator.specs.declared.Profile as given
 use Rattle.generator.specs.declared.Sight.{Sight}
-use Rattle.generator.specs.Xorshift.{draw}
 use Rattle.generator.specs.Menu.{sift, objects, menu, span-fits, free-runner}
-use Rattle.generator.specs.Draw.{Profile, weigh, total, choose, chosen, no-command, draw-refusal, drawn}
-use Rattle.generator.specs.Public.{profileOf, toldCommand, refusedOf, drawnIn}
-use Rattle.generator.specs.Tables.{eligibleIn, sightOf, worthsOf, sumOf, indexOf, opsOf, firstsOf, secondsOf, valuesOf, commandAt, refusalOf}
+use Rattle.generator.specs.Draw.{Profile, weigh, total, choose, chosen, no-command}
+use Rattle.generator.specs.Public.{toldCommand}
+use Rattle.generator.specs.Tables.{eligibleIn, sightOf, worthsOf, sumOf, indexOf, opsOf, firstsOf, secondsOf, valuesOf, commandAt}
 
 -- ## What a draw looks at
 -- The runner is what stands first in the table of the ready line, 0 for idle.
@@ -148,14 +145,3 @@ pub chosen-is : (m : Machine) (p : Profile) (d1 d2 d3 : ℕ) → length (p .weig
 chosen-is m p d1 d2 d3 h =
     let w = p .weights in
     subst (told-of m (p .span) d1 d2 d3) (sym (spelled w 8 0 (omega arith))) (chosen-eight m (p .span) d1 d2 d3 (at w 0) (at w 1) (at w 2) (at w 3) (at w 4) (at w 5) (at w 6) (at w 7))
-
--- ## The two ways of a draw
-module _ (k : Kernel) (seed : ℕ) (p : given.Profile) where
-  pub draw-refused : refusalOf (k .started) seed p ≢ 0 → drawnIn k seed p ≡ refusedOf (refusalOf (k .started) seed p) seed
-  unfolding drawnIn drawn draw-refusal view
-  draw-refused h = rw (ne-eqb (refusalOf (k .started) seed p) 0 h)
-
-  pub draw-made : refusalOf (k .started) seed p ≡ 0
-      → drawnIn k seed p ≡ record { code = 0; command = toldCommand (chosen (view k) (profileOf p) (draw seed) (draw (draw seed)) (draw (draw (draw seed)))); seed = draw (draw (draw seed)) }
-  unfolding drawnIn drawn draw-refusal view
-  draw-made h = rw (eq-eqb (refusalOf (k .started) seed p) 0 h)

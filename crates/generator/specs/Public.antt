@@ -27,6 +27,10 @@ toldDrawn d = record { code = d .code; command = toldCommand (d .command); seed 
 abbrev pub refusedOf : ℕ → ℕ → Drawn
 refusedOf code seed = record { code = code; command = toldCommand draw.no-command; seed = seed }
 
+-- The answer of a draw that is made: the command that its three draws choose, and the third as the seed.
+abbrev pub madeOf : Kernel → Profile → ℕ → ℕ → ℕ → Drawn
+madeOf k p d1 d2 d3 = record { code = 0; command = toldCommand (draw.chosen (view k) (profileOf p) d1 d2 d3); seed = d3 }
+
 -- The draw of the machine that the tables stand for, with its checks 17, 18, 2.
 unfoldable pub drawnIn : Kernel → ℕ → Profile → Drawn
 drawnIn k seed p = toldDrawn (draw.drawn (view k) seed (profileOf p))

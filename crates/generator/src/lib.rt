@@ -1,7 +1,8 @@
 // The generator: Marsaglia's xorshift, and commands drawn by it that the kernel accepts.
 //
-// `draw` is by value: a state, a seed and a profile in; code, command and the next seed out. `Generator` holds a seed that is lent and advanced
-// where it stands. Every state, seed and profile gets an answer: no public function has a `requires`. specs/ says what each answer is.
+// A `Generator` holds a seed that is lent and advanced where it stands: `draw_with` draws a command by it. `draw` is by value, over the same: a
+// state, a seed and a profile in; code, command and the next seed out. Every state, seed and profile gets an answer: no public function has a
+// `requires`. specs/ says what each answer is.
 use kernel::Command;
 use kernel::Kernel;
 use line::POId;
@@ -215,11 +216,16 @@ fn kind_for(d: u64, w: [u32; 8]) -> u8
 
 // ---- The command
 
-// A cell of a column of the menu, 0 past its end.
+// A cell of a column of the menu, 0 past its end: a column is indexed by a kind.
 fn cell(column: [u8; 8], i: u8) -> u8
     ensures { λ r. ⌜ r ≡ at column i ⌝ }
 {
-    line::of_object(column, POId(i))
+    if i < 8 {
+        let j = i as usize;
+        column[j]
+    } else {
+        0
+    }
 }
 
 fn long_cell(column: [u64; 8], i: u8) -> u64
@@ -336,17 +342,19 @@ fn refused(code: u8, seed: u32) -> Drawn
     }
 }
 
-// A draw without the test of the state. Three draws are made for each command, used or not; none, where it is refused.
-fn draw_sound(k: Kernel, seed: u32, p: Profile) -> Drawn
-    ensures { λ r. ⌜ r ≡ public.drawnIn k seed p ⌝ }
+// The number of a draw's first check that holds, in document 01's order 1, 17, 18, 2; 0 for none.
+fn code_of(k: Kernel, seed: u32, p: Profile) -> u8
+    ensures { λ r. ⌜ r ≡ public.drawnOf k seed p .code ⌝ }
 {
     let code = refusal(k.started, seed, p);
-    if code != 0 {
-        return refused(code, seed);
-    }
-    let d1 = xorshift(seed);
-    let d2 = xorshift(d1);
-    let d3 = xorshift(d2);
+    let sound = k.sound();
+    line::choose(!sound, 1, code)
+}
+
+// The answer of a draw that is made: the command that its three draws choose, and the third as the seed.
+fn made(k: Kernel, p: Profile, d1: u32, d2: u32, d3: u32) -> Drawn
+    ensures { λ r. ⌜ r ≡ public.madeOf k p d1 d2 d3 ⌝ }
+{
     let command = pick_command(k, p, d1, d2, d3);
     Drawn {
         code: 0,
@@ -355,17 +363,7 @@ fn draw_sound(k: Kernel, seed: u32, p: Profile) -> Drawn
     }
 }
 
-// A draw, with document 01's checks in the order 1, 17, 18, 2.
-pub fn draw(k: Kernel, seed: u32, p: Profile) -> Drawn
-    ensures { λ r. ⌜ r ≡ public.drawnOf k seed p ⌝ }
-{
-    if !k.sound() {
-        return refused(1, seed);
-    }
-    draw_sound(k, seed, p)
-}
-
-// ---- The lent form
+// ---- The generator, lent
 
 // A seed that is lent, and advanced where it stands.
 pub struct Generator {
@@ -381,11 +379,25 @@ pub fn advance(g: &mut Generator) -> u32
     x
 }
 
-// A command is drawn, and the seed is advanced where it stands; a refused draw leaves it.
+// A command is drawn. Three draws are made for it where the seed stands, used or not; none, where it is refused.
 pub fn draw_with(g: &mut Generator, k: Kernel, p: Profile) -> Drawn
     ensures { λ r. ⌜ public.DrawsWith (now (g .entry)) k p r (now (g .exit)) ⌝ }
 {
-    let d = draw(k, g.seed, p);
-    g.seed = d.seed;
-    d
+    let seed = g.seed;
+    let code = code_of(k, seed, p);
+    if code != 0 {
+        return refused(code, seed);
+    }
+    let d1 = advance(&mut *g);
+    let d2 = advance(&mut *g);
+    let d3 = advance(&mut *g);
+    made(k, p, d1, d2, d3)
+}
+
+// A draw by value: a generator with that seed is lent for one draw, and the seed that it is left with is the answer's.
+pub fn draw(k: Kernel, seed: u32, p: Profile) -> Drawn
+    ensures { λ r. ⌜ r ≡ public.drawnOf k seed p ⌝ }
+{
+    let mut g = Generator { seed };
+    draw_with(&mut g, k, p)
 }

@@ -6,11 +6,11 @@ use native.Mathlib.Omega.{arith}
 use mathlib.Core.Path.{_≡_, refl, sym, ap, _∙_, subst}
 use mathlib.Core.Logic.{_≢_}
 use mathlib.Core.List.{List, [], _∷_, map}
-use mathlib.Core.Bool.{Bool, true, false, cond, not, _&&_, true≢false, or-false, Bool·not-not}
+use mathlib.Core.Bool.{Bool, true, false, cond, not, _&&_, _||_, true≢false, or-false, or-true, Bool·not-not}
 use lib.ListN.{getD, List·getD-map}
 use lib.Dec.{eqb, leb, ltb}
 use borrow.Author.Tests.{eqb-true, ne-eqb, lt-ltb, leb-true, not-false}
-use Rattle.rules.specs.Line.{at, front, empty, first-alone, within}
+use Rattle.rules.specs.Line.{at, count, front, empty, first-alone, within}
 use Rattle.rules.specs.Machine.{Machine, Command, tasks, running}
 use Rattle.rules.specs.Table as T
 use Rattle.rules.specs.Table.{Out, same, take, yield, close, sleep, await, none, due, serve, moves, closing, first-due, effect, freed, freed-by, release, leave, carry}
@@ -45,6 +45,24 @@ pub answered-report : (n : Machine) (t : ℕ) → answered (encode n) t ≡ repo
 unfolding encode
 answered-report n t = rw (front-pad 31 (n .ready))
 
+-- What a check reads of the task or object that a command names is read only where the op names one.
+guarded : (h named : Bool) → (h ≡ true → named ≡ true) → (f : ℕ → Bool) (a : ℕ) → h && f (cond named a 0) ≡ h && f a
+guarded true named e f a = rw (e refl)
+guarded false named e f a = refl
+
+names : (op n : ℕ) → eqb n 2 || within 7 last-op n ≡ true → eqb op n ≡ true → eqb op 2 || within 7 last-op op ≡ true
+names op n w e = rw (eqb-true op n e) w
+
+uses-names : (op : ℕ) → within 7 last-op op ≡ true → eqb op 2 || within 7 last-op op ≡ true
+uses-names op e = rw (e, or-true (eqb op 2))
+
+takes-names : (op : ℕ) → eqb op 7 || eqb op 10 ≡ true → eqb op 2 || within 7 last-op op ≡ true
+takes-names op = go (eqb op 7) refl
+  where
+    go : (b : Bool) → eqb op 7 ≡ b → b || eqb op 10 ≡ true → eqb op 2 || within 7 last-op op ≡ true
+    go true e t = names op 7 refl e
+    go false e t = names op 10 refl t
+
 module _ (m : Machine) (s : Sound m) where
   -- who waits on an object: the first of its queue, 0 for nobody
   waiter-tie : (o : ℕ) → at (encode m .waiter) o ≡ front 0 (getD (m .queue) o [])
@@ -59,8 +77,21 @@ module _ (m : Machine) (s : Sound m) where
   pub refusal-tie : (c : Command) → refusal-on (encode m) c ≡ refusal m c
   unfolding refusalOf refusal-formed refusal encode
   refusal-tie c =
+      let o = eqb (c .op) 2 || within 7 last-op (c .op) in
       let w : eqb (at (map (front 0) (m .queue)) (c .a)) 0 ≡ empty (getD (m .queue) (c .a) []) = ap (λ (x : ℕ). eqb x 0) (List·getD-map (front 0) (m .queue) (c .a) []) ∙ nobody (getD (m .queue) (c .a) []) (waiting-tasks m s (c .a)) in
-      rw (front-pad 31 (m .ready), w, Bool·not-not (eqb (at (m .ceiling) (c .a)) 0), or-false (eqb (c .op) 10), or-false (eqb (c .op) 9))
+      rw (
+        guarded (eqb (c .op) 1) (eqb (c .op) 1) (λ e. e) (λ x. eqb (c .a) 0 || not (eqb (at (m .base) x) 0)) (c .a),
+        guarded (eqb (c .op) 2) o (names (c .op) 2 refl) (λ x. not (eqb (at (m .ceiling) x) 0)) (c .a),
+        guarded (within 7 last-op (c .op)) o (uses-names (c .op)) (λ x. eqb (at (m .ceiling) x) 0) (c .a),
+        front-pad 31 (m .ready),
+        guarded (eqb (c .op) 7 || eqb (c .op) 10) o (takes-names (c .op)) (λ x. ltb (at (m .ceiling) x) (at (m .base) (front 0 (m .ready)))) (c .a),
+        guarded (eqb (c .op) 7 || eqb (c .op) 10) o (takes-names (c .op)) (λ x. leb 1 (count x (m .held))) (c .a),
+        guarded (eqb (c .op) 10 && eqb (c .b) 0) o (λ e. names (c .op) 10 refl (both-true (eqb (c .op) 10) (eqb (c .b) 0) e .0)) (λ x. not (eqb (at (map (front 0) (m .queue)) x) 0)) (c .a),
+        w,
+        Bool·not-not (eqb (at (m .ceiling) (c .a)) 0),
+        or-false (eqb (c .op) 10),
+        or-false (eqb (c .op) 9),
+      )
 
 -- Wake: the first of the delay line, if it is due.
 due-of : (l : List (ℕ × ℕ)) (u : List ℕ) (now : ℕ) → All (Right u) l → All (λ x. (x < 32) × (x ≢ 0)) (tasks l)

@@ -1,4 +1,4 @@
--- What the code does to the tables, op by op: the contracts of the functions inside this crate, and of the public untested (steppedOf).
+-- What the code does to the tables, op by op: the contracts of the functions inside this crate, and of the public step_trusting (steppedOf).
 -- (proofs/ ties each to the rules: of a sound state steppedOf is stepOf, Whole: step-meets. The other public contracts need none of this.)
 use Prim.Native.Nat.{ℕ, _+_, _^_}
 use mathlib.Core.Bool.{Bool, true, cond, not, _&&_, _||_}
@@ -145,6 +145,13 @@ refusal-formed c s = first-number (checksOf c s)
 unfoldable pub refusalOf : Command → Case → ℕ
 refusalOf c s = cond (not (formed c)) 4 (refusal-formed c s)
 
+-- the task that a command names, for create alone, and the object, for op 2 and ops 7 and up; 0 where a is none
+abbrev pub task-named : Command → ℕ
+task-named c = cond (eqb (c .op) 1) (c .a) 0
+
+abbrev pub object-named : Command → ℕ
+object-named c = cond (eqb (c .op) 2 || within 7 last-op (c .op)) (c .a) 0
+
 abbrev pub caseOn : Command → List ℕ → List ℕ → List ℕ → List ℕ → List ℕ → List ℕ → ℕ → Bool → Case
 caseOn c base ready held way ceiling waiter clock started = record {
   started = started;
@@ -153,10 +160,10 @@ caseOn c base ready held way ceiling waiter clock started = record {
   base = at base (at ready 0);
   held = at held (at ready 0);
   way = at way (at ready 0);
-  named = at base (c .a);
-  ceiling = at ceiling (c .a);
-  waiter = at waiter (c .a);
-  holders = count (c .a) held;
+  named = at base (task-named c);
+  ceiling = at ceiling (object-named c);
+  waiter = at waiter (object-named c);
+  holders = count (object-named c) held;
 }
 
 abbrev pub caseOf : Kernel → Command → Case

@@ -5,7 +5,7 @@ ghost use mathlib.Core.Bool.{not};
 ghost use lib.Dec.{ltb};
 ghost use Rattle.rules.specs.Refusals.{formed};
 ghost use Rattle.kernel.specs.Public.{said};
-ghost use Rattle.kernel.specs.Step.{refusal-formed, refusalOf, caseOn};
+ghost use Rattle.kernel.specs.Step.{refusal-formed, refusalOf, task-named, object-named, caseOn};
 use crate::Kernel;
 use line::POId;
 use line::TaskID;
@@ -36,7 +36,7 @@ pub(crate) struct Case {
     pub base: u8,
     pub held: u8,
     pub way: u8,
-    // the base of the task a that the command names; the ceiling of the object a, who waits on it, and how many hold it
+    // the base of the task that the command names; the ceiling of the object that it names, who waits on it, and how many hold it
     pub named: u8,
     pub ceiling: u8,
     pub waiter: u8,
@@ -102,6 +102,21 @@ impl Command {
         let n = self.refusal_formed(s);
         line::choose(!self.formed(), 4, n)
     }
+
+    // The task that the command names: a is one for create alone. Task 0 for any other.
+    fn task(self) -> TaskID
+        ensures { λ r. ⌜ r .0 ≡ task-named (said self) ⌝ }
+    {
+        TaskID(line::choose(self.op == 1, self.a, 0))
+    }
+
+    // The object that the command names: a is one for op 2 and for ops 7 and up. The null object for any other.
+    fn object(self) -> POId
+        ensures { λ r. ⌜ r .0 ≡ object-named (said self) ⌝ }
+    {
+        let op = self.op;
+        POId(line::choose((op == 2) | (7 <= op) & (op <= LAST_OP), self.a, 0))
+    }
 }
 
 // The clock would pass 2^64-1.
@@ -126,7 +141,7 @@ pub(crate) fn looked_at<'a>(
     ensures { λ r. ⌜ r ≡ caseOn (said c) (now (base .entry)) (now (ready .entry)) (now (held .entry)) (now (way .entry)) ceiling waiter clock started ⌝ }
 {
     let r = TaskID(ready[0]);
-    let o = POId(c.a);
+    let o = c.object();
     Case {
         started,
         clock,
@@ -134,7 +149,7 @@ pub(crate) fn looked_at<'a>(
         base: line::of_task(base, r),
         held: line::of_task(held, r),
         way: line::of_task(way, r),
-        named: line::of_task(base, TaskID(c.a)),
+        named: line::of_task(base, c.task()),
         ceiling: line::of_object(ceiling, o),
         waiter: line::of_object(waiter, o),
         holders: line::holders(held, o),

@@ -132,9 +132,9 @@ impl Kernel {
         self.carried(c)
     }
 
-    // The step with no test of the tables first, for a state that is known to be sound: of such a state it is `step`. Any tables get an answer.
-    // (`step` does not call it: the state would be copied once more for each step.)
-    pub fn untested(self, c: Command) -> Stepped
+    // The step that trusts its state to be sound and does not test it: of a sound state it is `step`. Any tables get one answer, which for a
+    // forged state is no step of document 01. (`step` does not call it: the state would be copied once more for each step.)
+    pub fn step_trusting(self, c: Command) -> Stepped
         ensures { λ r. ⌜ r ≡ step.steppedOf self (said c) ⌝ }
     {
         let s = command::looked_at(

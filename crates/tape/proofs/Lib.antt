@@ -4,4 +4,5 @@ pub mod Reading
 pub mod RoundTrip
 pub mod Runs
 pub mod Answers
+pub mod Readers
 pub mod Single

@@ -6,8 +6,8 @@ use borrow.Author.Needs.{needs}
 use Rattle.judging.proofs.Run.answered.Statement.{statement}
 use Rattle.judging.proofs.Run.answered.Tie as tie
 
-untested-requires : tie.Need-untested-requires
-untested-requires c κs = search needs
+step-trusting-requires : tie.Need-step-trusting-requires
+step-trusting-requires c κs = search needs
 
 same-requires : tie.Need-same-requires
 same-requires c κs = search needs
@@ -18,7 +18,7 @@ over-requires c κs = search needs
 returns : tie.Need-returns
 returns c =
     let a = c .before .before .before .before .before .before .before .args in
-    let u = c .before .before .before .before .before .untested in
+    let u = c .before .before .before .before .before .step-trusting in
     let s = c .before .before .before .same in
     c .over .ensures ∙ differing (a .self) (a .t) (u .result) (u .ensures) (s .result) (s .ensures) (not-true _ (c .before .before .if1 .taken))
 
@@ -28,11 +28,11 @@ beyond-requires c κs = search needs
 returns-2 : tie.Need-returns-2
 returns-2 c =
     let a = c .before .before .before .before .before .before .before .args in
-    let u = c .before .before .before .before .before .untested in
+    let u = c .before .before .before .before .before .step-trusting in
     let s = c .before .before .before .same in
     agreeing (a .self) (a .t) (u .result) (u .ensures) (s .result) (s .ensures) (c .beyond .result) (c .beyond .ensures) (not-false _ (c .before .before .if1 .left))
 
 pub answered-spec : {M : Type 1} → statement M
 answered-spec =
     tie.close
-    (tie.spec untested-requires same-requires over-requires returns beyond-requires returns-2)
+    (tie.spec step-trusting-requires same-requires over-requires returns beyond-requires returns-2)

@@ -1,11 +1,11 @@
--- `Kernel::untested` is steppedOf: a refused command ends as Ends says, and an accepted one is carried out. Assumes nothing.
+-- `Kernel::step_trusting` is steppedOf: a refused command ends as Ends says, and an accepted one is carried out. Assumes nothing.
 use mathlib.Core.Path.{ap, _∙_}
 use Rattle.kernel.specs.Public.{said}
 use Rattle.kernel.specs.Step.{refusalOf}
 use Rattle.kernel.proofs.Ends.{refused-end, accepted-end}
 use borrow.Author.Needs.{needs}
-use Rattle.kernel.proofs.Kernel.untested.Statement.{statement}
-use Rattle.kernel.proofs.Kernel.untested.Tie as tie
+use Rattle.kernel.proofs.Kernel.step_trusting.Statement.{statement}
+use Rattle.kernel.proofs.Kernel.step_trusting.Tie as tie
 
 looked-at-requires : tie.Need-looked-at-requires
 looked-at-requires c κs = search needs
@@ -37,8 +37,8 @@ returns-2 c =
     let n = c .before .before .refusal .ensures ∙ ap (refusalOf (said (s .args .c))) (c .before .before .before .looked-at .ensures) in
     c .carried .ensures ∙ accepted-end (s .args .t1) (said (s .args .c)) (c .before .before .refusal .result) n (c .before .if1 .left)
 
-pub untested-spec : {M : Type 1} → statement M
-untested-spec =
+pub step-trusting-spec : {M : Type 1} → statement M
+step-trusting-spec =
     tie.close
     (tie.spec
     looked-at-requires
