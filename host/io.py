@@ -139,7 +139,7 @@ def draw_reads():
 
 
 def judge_reads():
-    tape = (TAPES / '00.tape').read_bytes()
+    tape = (TAPES / '000.tape').read_bytes()
     for at in (0, 1, 15, 16, 17, 32, 100, len(tape) - 16, len(tape) - 1, len(tape)):
         failed_read('judge', tape, at, errno.EIO, b'')
     failed_read('judge', tape, 100, errno.EAGAIN, b'')
@@ -199,7 +199,7 @@ def failed_writes():
 # ---- What the system itself refuses
 
 def descriptors():
-    tape = TAPES / '00.tape'
+    tape = TAPES / '000.tape'
     for program, given, head in (('walk', SCRIPT, WALK_HEADER), ('draw', FIRST + SETUP, DRAW_HEADER), ('judge', tape.read_bytes(), b'')):
         hold(f'{program} <&-', run(program, closed=[0]), head, 3, told(INPUT, errno.EBADF))
         hold(f'{program} >&-', run(program, given=given, closed=[1]), b'', 3, told(OUTPUT, errno.EBADF))
@@ -278,7 +278,7 @@ def hints():
 
 def stack():
     """Each program has enough with the stack that docs/PROGRAMS.md says. (Under the emulator the stack is the emulator's.)"""
-    tape = (TAPES / '00.tape').read_bytes()
+    tape = (TAPES / '000.tape').read_bytes()
     for program, given in () if ARM else (('walk', SCRIPT * 200), ('draw', FIRST.replace(b'25', b'2500') + SETUP), ('judge', tape)):
         whole = run(program, given=given)
         # the environment stands on the stack too
