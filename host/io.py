@@ -264,10 +264,23 @@ def endless_first_line():
         stop(f'draw reads {ended.calls.count("read 1")} bytes of an endless first line, and 129 tell that it is over 128')
 
 
+def longest_first_line():
+    """128 bytes are read to their end, however they come: the seed's word is judged (17). With one more the line is no first line (14)."""
+    for long, number in ((0, 17), (1, 14)):
+        line = FIRST.replace(b'seed 1 ', b'seed ' + b'9' * (128 - len(FIRST) + 2 + long) + b' ')
+        rows = DRAW_HEADER + b'0 0 0 0 0 %d 0 0 0\n' % number
+        hold(f'draw: a first line of {len(line) - 1} bytes', run('draw', given=line + SETUP), rows, 0, ('hint: ',))
+        ended = run('draw', given=line + SETUP, environment=faults('draw', most=7))
+        hold(f'draw: a first line of {len(line) - 1} bytes in pieces', ended, rows, 0, ('hint: ',))
+
+
 def hints():
     """Standard output is fixed; what may be wrong with the input is said on standard error, once."""
     rows = WALK_HEADER + b''.join(b'%d 0 14 0 0 0\n' % n for n in range(1, 2001))
-    hold('walk: a script with byte 13', run('walk', given=b'start\r\n' * 2000), rows, 0, ('hint: ', '13'))
+    ended = run('walk', given=b'start\r\n' * 2000)
+    hold('walk: a script with byte 13', ended, rows, 0, ('hint: ', '13'))
+    if ended.said.count('hint: ') != 1:
+        stop(f'walk: a script with byte 13: the hint is to be given once: {ended.said}')
     for line, number in ((b'seeds 1', 14), (FIRST.replace(b'seed 1', b'seed 0'), 17), (FIRST.replace(b'span 100', b'span 0'), 18), (FIRST + b'wake\n', 2)):
         rows = DRAW_HEADER + (b'1 5 0 0 0 2 0 0 0\n' if number == 2 else b'') + b'0 0 0 0 0 %d 0 0 0\n' % number
         ended = run('draw', given=line)
@@ -353,7 +366,7 @@ def main():
     prepare()
     if not run('walk', environment=faults('walk')).calls:
         stop('host/fail.c is not loaded: its log stays empty')
-    for part in (refusals, toolchain, walk_reads, draw_reads, judge_reads, interrupted, failed_writes, descriptors, goes_away, streams, endless_first_line,
+    for part in (refusals, toolchain, walk_reads, draw_reads, judge_reads, interrupted, failed_writes, descriptors, goes_away, streams, endless_first_line, longest_first_line,
                  hints, stack):
         part()
     shutil.rmtree(work)

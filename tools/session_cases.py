@@ -17,8 +17,8 @@ CRATE = ROOT / 'crates' / 'session_cases'
 CLOCK = 2**64 - 1
 # The most that walk or draw may come to read at a time: an input of three pieces and more is longer than three of these.
 PIECE = 4096
-# Draws about each full thousand, since draw writes a thousand at a time.
-COUNTS = (1001, 2000, 2001, 3000)
+# Draws about each full lot, since draw writes 384 at a time; and some longer ones.
+COUNTS = (383, 384, 385, 768, 769, 1001, 2000, 2001, 3000)
 # Where a decimal gets one digit more: each power of ten that 64 bits hold with its neighbours, 0, 9 and 10 among them; and the last number.
 EDGES = sorted({10**k + d for k in range(20) for d in (-1, 0, 1)} | {CLOCK})
 

@@ -1,14 +1,15 @@
 -- What `run` lends is room enough: for a line for each byte of a piece and one more, for the end of the input, and for a lot of draws. Where a number of the
 -- code changes, one of these facts is gone. Assumes nothing.
-use Prim.Native.Nat.{ℕ, suc, _*_, _≤_}
+use Prim.Native.Nat.{ℕ, suc, _+_, _*_, _≤_}
 use native.Mathlib.Omega.{arith}
 use mathlib.Core.Bool.{cond}
-use mathlib.Core.Path.{_≡_}
-use mathlib.Core.List.{List}
+use mathlib.Core.Path.{_≡_, refl, ap, _∙_}
+use mathlib.Core.List.{List, [], _∷_, _++_}
 use borrow.Author.Tests.{le-leb}
 use lib.Dec.{leb}
-use lib.ListN.{length}
-use Rattle.programs.specs.Loops.{walk-piece, walk-lent, draw-piece, draw-lent}
+use lib.ListN.{length, take, drop}
+use lib.Seq.{sets, length-sets, sets-eq}
+use Rattle.programs.specs.Loops.{Put, walk-piece, walk-lent, draw-piece, draw-lent}
 
 -- where there is room, what is said of it is the first of the two
 pub with-room : {X : Type 0} (n : ℕ) (out : List ℕ) (x y : X) → n ≤ length out → cond (leb n (length out)) x y ≡ x
@@ -19,3 +20,15 @@ walk-roomy p out o e = omega (arith, o, e)
 
 pub draw-roomy : (p out : List ℕ) → length p ≤ draw-piece → draw-lent ≡ length out → 192 * suc (length p) ≤ length out
 draw-roomy p out o e = omega (arith, o, e)
+
+-- ---- what was put stands at the front
+
+take-front : (text more : List ℕ) → take (length text) (text ++ more) ≡ text
+take-front [] more = refl
+take-front (b ∷ text) more = ap (λ (l : List ℕ). b ∷ l) (take-front text more)
+
+pub put-front : (out left text : List ℕ) (at : ℕ) → left ≡ sets out 0 text → at ≡ length text → at ≤ length left → Put at left text
+put-front out left text at e a o =
+    let n : length left ≡ length out = ap length e ∙ length-sets out 0 text in
+    let s : sets out 0 text ≡ text ++ drop (0 + length text) out = sets-eq text out 0 (omega (arith, o, a, n)) in
+    (a, ap (λ (k : ℕ). take k left) a ∙ ap (λ (l : List ℕ). take (length text) l) (e ∙ s) ∙ take-front text (drop (0 + length text) out))

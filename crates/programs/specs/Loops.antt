@@ -1,7 +1,7 @@
 -- What the programs' loops do, as far as a contract can say it: which state they are in behind the pieces that were read, and why they end. What is read and
 -- written no contract can say.
 use Prim.Native.Nat.{ℕ, suc, _*_, _≤_}
-use mathlib.Core.Bool.{Bool, cond, not, _&&_}
+use mathlib.Core.Bool.{Bool, true, cond, not, _&&_}
 use mathlib.Core.Path.{_≡_}
 use mathlib.Core.List.{List, [], _∷_}
 use mathlib.Core.Logic.{_⊎_}
@@ -12,9 +12,9 @@ use Rattle.session.specs.declared.draw.Draw.{Draw}
 use Rattle.session.specs.declared.draw.Reader.{Reader}
 use Rattle.session.specs.Draw.{some-behind}
 use Rattle.judging.specs.declared.Judge.{Judge}
-use Rattle.judging.specs.declared.Verdict.{Verdict}
 use Rattle.judging.specs.Verdict.{status-of as status-on}
-use Rattle.judging.specs.Pieces.{to-come, at-first, judged-in}
+use Rattle.judging.specs.Pieces.{to-come, at-first, ended, judged-in}
+use Rattle.programs.specs.declared.flow.Went.{Went}
 
 -- How the work stands, by its number: it goes on (0), a read gave nothing (1), a read failed (2), a write failed (3).
 abbrev pub stops : ℕ → Bool
@@ -28,9 +28,13 @@ status-of kind = cond (leb 2 kind) 3 0
 abbrev pub Brought : List ℕ → ℕ → ℕ → Type 0
 Brought piece count kind = (count ≤ length piece) × (count ≡ length (take count piece)) × (((kind ≡ 0) × (1 ≤ count)) ⊎ ((count ≡ 0) × (1 ≤ kind)))
 
--- A write went well, or failed.
-abbrev pub Wrote : ℕ → Type 0
-Wrote kind = (kind ≡ 0) ⊎ (kind ≡ 3)
+-- A write of so many bytes, by which w became r: all were taken, and the work stands as it stood; or it failed. What the last read brought is kept.
+abbrev pub Wrote : ℕ → Went → Went → Type 0
+Wrote n w r = (r .count ≡ w .count) × (((r .kind ≡ w .kind) × (r .sent ≡ n)) ⊎ (r .kind ≡ 3))
+
+-- So many bytes stand at the front of a buffer, and they are this text.
+abbrev pub Put : ℕ → List ℕ → List ℕ → Type 0
+Put n out text = (n ≡ length text) × (take n out ≡ text)
 
 -- The state behind pieces of input, one after another.
 unfoldable pub behind : {S : Type 0} → (S → List ℕ → S) → S → List (List ℕ) → S
@@ -47,34 +51,34 @@ all-turns = 18446744073709551615
 
 -- What walk reads at a time, and the room that it lends: a line for each byte of a piece, and one more. The same for draw; and how many draws it makes at a time.
 abbrev pub walk-piece : ℕ
-walk-piece = 768
+walk-piece = 640
 
 abbrev pub walk-lent : ℕ
 walk-lent = walk-room * suc walk-piece
 
 abbrev pub draw-piece : ℕ
-draw-piece = 512
+draw-piece = 384
 
 abbrev pub draw-lent : ℕ
 draw-lent = draw-room * suc draw-piece
 
 abbrev pub draw-lot : ℕ
-draw-lot = 512
+draw-lot = 384
 
--- A turn of a loop, from the state s to t: a piece of at least one byte was read, and t stands behind it; or nothing was read, and the work stops.
-abbrev pub Turned : {S : Type 0} → (S → List ℕ → S) → S → S → ℕ → Type 0
-Turned after s t kind = ((p : List ℕ) × (1 ≤ length p) × (t ≡ after s p)) ⊎ ((t ≡ s) × T (stops kind))
+-- A turn of a loop, from the state s to t: some bytes were read, at the front of the buffer, and t stands behind all of them; or nothing was read, and the work stops.
+abbrev pub Turned : {S : Type 0} → (S → List ℕ → S) → S → S → Went → List ℕ → Type 0
+Turned after s t went buffer = ((1 ≤ length (take (went .count) buffer)) × (t ≡ after s (take (went .count) buffer))) ⊎ ((t ≡ s) × T (stops (went .kind)))
 
 -- A whole loop, from s to t: t stands behind all pieces that were read, and none of these is empty. It ended because a read gave nothing, a read or a write
 -- failed, nothing more is wanted, or all turns are used up.
-abbrev pub Looped : {S : Type 0} → (S → List ℕ → S) → (S → Bool) → S → S → ℕ → Type 0
-Looped after wants s t kind =
+abbrev pub Looped : {S : Type 0} → (S → List ℕ → S) → (S → Bool) → S → S → Went → Type 0
+Looped after wants s t went =
     (ps : List (List ℕ)) × None-empty ps × (t ≡ behind after s ps)
-    × (T (stops kind) ⊎ T (not (wants t)) ⊎ (all-turns ≤ length ps))
+    × (T (stops (went .kind)) ⊎ T (not (wants t)) ⊎ (all-turns ≤ length ps))
 
 -- Draws in a loop, from d to e: e stands behind some draws. It ended because none is left, a write failed, or all turns are used up.
-abbrev pub Drawn : Draw → Draw → ℕ → Type 0
-Drawn d e kind = (n : ℕ) × (e ≡ some-behind n d) × (T (stops kind) ⊎ (e .left ≡ 0) ⊎ (all-turns * draw-lot ≤ n))
+abbrev pub Drawn : Draw → Draw → Went → Type 0
+Drawn d e went = (n : ℕ) × (e ≡ some-behind n d) × (T (stops (went .kind)) ⊎ (e .left ≡ 0) ⊎ (all-turns * draw-lot ≤ n))
 
 -- Whether draw still reads: it is at its first line or its setup lines, and its first line is not over 128 bytes already.
 abbrev pub draw-wants : Reader → Bool
@@ -88,10 +92,14 @@ judge-wants j = to-come (j .run .stage)
 abbrev pub Done-or-failed : ℕ → Type 0
 Done-or-failed r = (r ≡ 0) ⊎ (r ≡ 3)
 
--- The status of a verdict that was told, or 3 where it could not be written.
-abbrev pub Told : Verdict → ℕ → Type 0
-Told v r = (r ≡ status-on v) ⊎ (r ≡ 3)
+-- Behind the loop: 3 where a read or a write has failed there.
+abbrev pub Concluded : ℕ → ℕ → Type 0
+Concluded kind r = (leb 2 kind ≡ true → r ≡ 3) × Done-or-failed r
 
--- What judge answers: the status of the verdict on the pieces that it has read, or 3.
+-- The same for judge: else the status of the verdict on all that was read, or 3 where it could not be written.
+abbrev pub Judged : Judge → ℕ → ℕ → Type 0
+Judged j kind r = (leb 2 kind ≡ true → r ≡ 3) × ((r ≡ status-on (ended j .verdict)) ⊎ (r ≡ 3))
+
+-- What judge answers: the status of the verdict on some pieces, or 3.
 abbrev pub Judged-or-failed : ℕ → Type 0
 Judged-or-failed r = ((ps : List (List ℕ)) × (r ≡ status-on (judged-in at-first ps .verdict))) ⊎ (r ≡ 3)

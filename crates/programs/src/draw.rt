@@ -6,6 +6,7 @@ ghost use Rattle.session.specs.Walk.{In-front};
 ghost use Rattle.session.specs.Draw as draws;
 ghost use Rattle.programs.specs.Loops as loops;
 use crate::flow::Went;
+use crate::flow::brought;
 use crate::flow::goes_on;
 use crate::flow::going;
 use crate::flow::has_failed;
@@ -50,34 +51,31 @@ fn reads(r: Reader) -> bool
 // Where out is the one that `run` lends, there is room for all that a piece prints; for the end of the input; and for a lot of draws.
 fn put_lines(r: Reader, piece: &[u8], out: &mut [u8]) -> Read
     requires { ⌜ (length (now piece) ≤ loops.draw-piece) × (loops.draw-lent ≡ length (now out)) ⌝ }
-    ensures { λ x. ⌜ (x .reader ≡ draws.piece-behind r (now (piece .entry))) × (x .at ≡ length (draws.piece-text r (now (piece .entry)))) × In-front (x .at) (now (out .exit)) ⌝ }
+    ensures { λ x. ⌜ (x .reader ≡ draws.piece-behind r (now (piece .entry))) × loops.Put (x .at) (now (out .exit)) (draws.piece-text r (now (piece .entry))) × In-front (x .at) (now (out .exit)) ⌝ }
 {
     feed(r, piece, out)
 }
 
 fn put_end(r: Reader, out: &mut [u8]) -> Drew
     requires { ⌜ loops.draw-lent ≡ length (now out) ⌝ }
-    ensures { λ x. ⌜ (x .draw ≡ draws.end-behind r) × (x .at ≡ length (draws.end-text r)) × In-front (x .at) (now (out .exit)) ⌝ }
+    ensures { λ x. ⌜ (x .draw ≡ draws.end-behind r) × loops.Put (x .at) (now (out .exit)) (draws.end-text r) × In-front (x .at) (now (out .exit)) ⌝ }
 {
     finish(r, out)
 }
 
 fn put_draws(d: Draw, out: &mut [u8]) -> Drew
     requires { ⌜ loops.draw-lent ≡ length (now out) ⌝ }
-    ensures { λ x. ⌜ (x .draw ≡ draws.some-behind loops.draw-lot d) × (x .at ≡ length (draws.some-text loops.draw-lot d)) × In-front (x .at) (now (out .exit)) ⌝ }
+    ensures { λ x. ⌜ (x .draw ≡ draws.some-behind loops.draw-lot d) × loops.Put (x .at) (now (out .exit)) (draws.some-text loops.draw-lot d) × In-front (x .at) (now (out .exit)) ⌝ }
 {
-    draw_some(d, 512, out)
+    draw_some(d, 384, out)
 }
 
 // One read, what is printed for it, one write.
-fn one_piece(fd: i32, r: Reader, told: bool, out: &mut [u8]) -> Turn
-    requires { ⌜ loops.draw-lent ≡ length (now out) ⌝ }
-    ensures { λ x. ⌜ loops.Turned draws.piece-behind r (x .reader) (x .went .kind) ⌝ }
+fn one_piece(fd: i32, r: Reader, told: bool, piece: &mut [u8], out: &mut [u8]) -> Turn
+    requires { ⌜ (length (now piece) ≤ loops.draw-piece) × (loops.draw-lent ≡ length (now out)) ⌝ }
+    ensures { λ x. ⌜ loops.Turned draws.piece-behind r (x .reader) (x .went) (now (piece .exit)) ⌝ }
 {
-    let mut piece = [0u8; 512];
-    let got = read_piece(fd, &mut piece);
-    let n = got.count;
-    let came = got.went;
+    let came = read_piece(fd, piece);
     if !goes_on(came) {
         return Turn {
             reader: r,
@@ -85,25 +83,26 @@ fn one_piece(fd: i32, r: Reader, told: bool, out: &mut [u8]) -> Turn
             told,
         };
     }
+    let n = brought(came);
     let told = hinted(told, &piece[..n]);
     let f = put_lines(r, &piece[..n], out);
     let at = f.at;
-    let went = write_whole(&out[..at]);
+    let went = write_whole(came, &out[..at]);
     let reader = f.reader;
     Turn { reader, went, told }
 }
 
 // Nothing says that the input ends, so the turns are counted.
-fn all_pieces(fd: i32, headed: Went, out: &mut [u8]) -> Turn
-    requires { ⌜ loops.draw-lent ≡ length (now out) ⌝ }
-    ensures { λ x. ⌜ loops.Looped draws.piece-behind loops.draw-wants draws.at-first (x .reader) (x .went .kind) ⌝ }
+fn all_pieces(fd: i32, headed: Went, piece: &mut [u8], out: &mut [u8]) -> Turn
+    requires { ⌜ (length (now piece) ≤ loops.draw-piece) × (loops.draw-lent ≡ length (now out)) ⌝ }
+    ensures { λ x. ⌜ loops.Looped draws.piece-behind loops.draw-wants draws.at-first (x .reader) (x .went) ⌝ }
 {
     let mut turns = 0u64;
     let mut reader = begin();
     let mut went = headed;
     let mut told = false;
     while turns < u64::MAX && goes_on(went) && reads(reader) {
-        let t = one_piece(fd, reader, told, out);
+        let t = one_piece(fd, reader, told, piece, out);
         reader = t.reader;
         went = t.went;
         told = t.told;
@@ -113,62 +112,53 @@ fn all_pieces(fd: i32, headed: Went, out: &mut [u8]) -> Turn
 }
 
 // The draws that are left, a lot to a write.
-fn all_draws(d: Draw, out: &mut [u8]) -> Lots
+fn all_draws(d: Draw, ended: Went, out: &mut [u8]) -> Lots
     requires { ⌜ loops.draw-lent ≡ length (now out) ⌝ }
-    ensures { λ x. ⌜ loops.Drawn d (x .draw) (x .went .kind) ⌝ }
+    ensures { λ x. ⌜ loops.Drawn d (x .draw) (x .went) ⌝ }
 {
     let mut turns = 0u64;
     let mut draw = d;
-    let mut went = going();
+    let mut went = ended;
     while turns < u64::MAX && goes_on(went) && 0 < draw.left {
         let f = put_draws(draw, out);
         let at = f.at;
-        went = write_whole(&out[..at]);
+        went = write_whole(went, &out[..at]);
         draw = f.draw;
         turns += 1;
     }
     Lots { draw, went }
 }
 
-// The end of the input, and the draws.
-fn finish_all(r: Reader, out: &mut [u8]) -> u8
+// The end of the input, and the draws. Where a read or a write has failed there are none, and the status says so.
+fn conclude(r: Reader, read: Went, out: &mut [u8]) -> u8
     requires { ⌜ loops.draw-lent ≡ length (now out) ⌝ }
-    ensures { λ x. ⌜ loops.Done-or-failed x ⌝ }
+    ensures { λ x. ⌜ loops.Concluded (read .kind) x ⌝ }
 {
+    if has_failed(read) {
+        return status(read);
+    }
     let f = put_end(r, out);
     let at = f.at;
-    let went = write_whole(&out[..at]);
-    if has_failed(went) {
-        return status(went);
-    }
+    let went = write_whole(going(), &out[..at]);
     let d = f.draw;
     if d.stage == 3 {
         hint_zeros();
     }
-    let t = all_draws(d, out);
+    let t = all_draws(d, went, out);
     let drawn = t.went;
     status(drawn)
-}
-
-fn draw_all(fd: i32, out: &mut [u8]) -> u8
-    requires { ⌜ loops.draw-lent ≡ length (now out) ⌝ }
-    ensures { λ x. ⌜ loops.Done-or-failed x ⌝ }
-{
-    let head = header(out);
-    let headed = write_whole(&out[..head]);
-    let t = all_pieces(fd, headed, out);
-    let read = t.went;
-    if has_failed(read) {
-        return status(read);
-    }
-    let reader = t.reader;
-    finish_all(reader, out)
 }
 
 // It answers its status. What it reads and writes no contract can say; what it writes of the bytes read is session's.
 pub fn run(fd: i32) -> u8
     ensures { λ r. ⌜ loops.Done-or-failed r ⌝ }
 {
-    let mut out = [0u8; 98496];
-    draw_all(fd, &mut out)
+    let mut piece = [0u8; 384];
+    let mut out = [0u8; 73920];
+    let head = header(&mut out);
+    let headed = write_whole(going(), &out[..head]);
+    let t = all_pieces(fd, headed, &mut piece, &mut out);
+    let r = t.reader;
+    let read = t.went;
+    conclude(r, read, &mut out)
 }

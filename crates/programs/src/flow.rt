@@ -5,23 +5,24 @@ ghost use lib.Dec.{eqb, leb};
 ghost use lib.ListN.{length};
 ghost use Rattle.programs.specs.Loops as loops;
 
-// How the work stands: it goes on (0), a read gave nothing (1), a read failed (2), a write failed (3). The number is private: only this file gives
-// one, so no program can say that its input has ended where no read gave nothing.
+// How the work stands (kind): it goes on (0), a read gave nothing (1), a read failed (2), a write failed (3); how many bytes the last read brought; and how
+// many of the last write's were taken. All three are private: only this file gives them. So no program can say that its input has ended where no read
+// gave nothing, nor that a read brought less than it did.
 pub(crate) struct Went {
     kind: u8,
-}
-
-// What a read brought: so many bytes, and how the work stands.
-pub(crate) struct Got {
-    pub count: usize,
-    pub went: Went,
+    count: usize,
+    sent: usize,
 }
 
 // Nothing was read or written yet.
 pub(crate) fn going() -> Went
     ensures { λ r. ⌜ r .kind ≡ 0 ⌝ }
 {
-    Went { kind: 0 }
+    Went {
+        kind: 0,
+        count: 0,
+        sent: 0,
+    }
 }
 
 pub(crate) fn goes_on(w: Went) -> bool
@@ -34,6 +35,13 @@ pub(crate) fn has_failed(w: Went) -> bool
     ensures { λ r. ⌜ r ≡ leb 2 (w .kind) ⌝ }
 {
     2 <= w.kind
+}
+
+// How many bytes the last read brought.
+pub(crate) fn brought(w: Went) -> usize
+    ensures { λ r. ⌜ r ≡ w .count ⌝ }
+{
+    w.count
 }
 
 // What a program answers: 0, or 3 where a read or a write failed.
@@ -77,22 +85,31 @@ fn read_once(fd: i32, piece: &mut [u8]) -> Call
 }
 
 // One read into piece. A call that a signal ended is made again; nothing says that signals end, so the loop counts down from a number that no run uses up.
-pub(crate) fn read_piece(fd: i32, piece: &mut [u8]) -> Got
-    ensures { λ r. ⌜ loops.Brought (now (piece .exit)) (r .count) (r .went .kind) ⌝ }
+pub(crate) fn read_piece(fd: i32, piece: &mut [u8]) -> Went
+    ensures { λ r. ⌜ loops.Brought (now (piece .exit)) (r .count) (r .kind) × (r .kind ≤ 2) ⌝ }
 {
     let mut turns = u64::MAX;
     let first = read_once(fd, piece);
     let mut count = first.count;
     let mut kind = first.kind;
-    while turns > 0 && kind == 4 {
+    while turns > 0 && 2 < kind {
         let again = read_once(fd, piece);
         count = again.count;
         kind = again.kind;
         turns -= 1;
     }
-    Got {
+    if 2 < kind {
+        os::fail(b"the input could not be read");
+        return Went {
+            kind: 2,
+            count: 0,
+            sent: 0,
+        };
+    }
+    Went {
+        kind,
         count,
-        went: Went { kind },
+        sent: 0,
     }
 }
 
@@ -112,22 +129,34 @@ fn write_once(out: &[u8]) -> Call
     moved_none(3)
 }
 
-// All of out, in as many writes as it takes.
-pub(crate) fn write_whole(out: &[u8]) -> Went
-    ensures { λ r. ⌜ loops.Wrote (r .kind) ⌝ }
+// All of out, in as many writes as it takes: it is all taken, or the write has failed. What the last read brought is kept.
+pub(crate) fn write_whole(w: Went, out: &[u8]) -> Went
+    ensures { λ r. ⌜ loops.Wrote (length (now (out .entry))) w r ⌝ }
 {
     let mut turns = u64::MAX;
     let mut at = 0;
     while turns > 0 && at < out.len() {
         let put = write_once(&out[at..]);
         if put.kind == 3 {
-            return Went { kind: 3 };
+            return Went {
+                kind: 3,
+                count: w.count,
+                sent: at,
+            };
         }
         at += put.count;
         turns -= 1;
     }
     if at < out.len() {
-        return Went { kind: 3 };
+        return Went {
+            kind: 3,
+            count: w.count,
+            sent: at,
+        };
     }
-    Went { kind: 0 }
+    Went {
+        kind: w.kind,
+        count: w.count,
+        sent: at,
+    }
 }

@@ -1,8 +1,12 @@
 // The program judge: reads a tape, and prints its seed and the verdict on it.
 ghost use mathlib.Core.Path.{_≡_};
+ghost use lib.ListN.{length};
 ghost use Rattle.judging.specs.Pieces.{at-first, fed};
+ghost use Rattle.report.specs.Report.{report-room, report-text};
+ghost use Rattle.session.specs.Walk.{In-front};
 ghost use Rattle.programs.specs.Loops as loops;
 use crate::flow::Went;
+use crate::flow::brought;
 use crate::flow::goes_on;
 use crate::flow::going;
 use crate::flow::has_failed;
@@ -20,29 +24,27 @@ struct Turn {
 }
 
 // One read, and its records judged.
-fn one_piece(fd: i32, j: Judge) -> Turn
-    ensures { λ r. ⌜ loops.Turned fed j (r .judge) (r .went .kind) ⌝ }
+fn one_piece(fd: i32, j: Judge, piece: &mut [u8]) -> Turn
+    ensures { λ r. ⌜ loops.Turned fed j (r .judge) (r .went) (now (piece .exit)) ⌝ }
 {
-    let mut piece = [0u8; 65536];
-    let got = read_piece(fd, &mut piece);
-    let n = got.count;
-    let went = got.went;
+    let went = read_piece(fd, piece);
     if !goes_on(went) {
         return Turn { judge: j, went };
     }
+    let n = brought(went);
     let judge = j.feed(&piece[..n]);
     Turn { judge, went }
 }
 
 // Behind a verdict nothing more is read. Nothing says that the input ends, so the turns are counted.
-fn all_pieces(fd: i32) -> Turn
-    ensures { λ r. ⌜ loops.Looped fed loops.judge-wants at-first (r .judge) (r .went .kind) ⌝ }
+fn all_pieces(fd: i32, piece: &mut [u8]) -> Turn
+    ensures { λ r. ⌜ loops.Looped fed loops.judge-wants at-first (r .judge) (r .went) ⌝ }
 {
     let mut turns = 0u64;
     let mut judge = Judge::fresh();
     let mut went = going();
     while turns < u64::MAX && goes_on(went) && judge.goes_on() {
-        let t = one_piece(fd, judge);
+        let t = one_piece(fd, judge, piece);
         judge = t.judge;
         went = t.went;
         turns += 1;
@@ -50,13 +52,25 @@ fn all_pieces(fd: i32) -> Turn
     Turn { judge, went }
 }
 
-// The report, and the status: the verdict's, or 3 where it could not be written.
-fn tell(j: Judgement) -> u8
-    ensures { λ r. ⌜ loops.Told (j .verdict) r ⌝ }
+// There is room for the report of every judgement.
+fn put_judgement(j: Judgement, out: &mut [u8]) -> usize
+    requires { ⌜ report-room ≡ length (now out) ⌝ }
+    ensures { λ r. ⌜ loops.Put r (now (out .exit)) (report-text j) × In-front r (now (out .exit)) ⌝ }
 {
+    put_report(out, j)
+}
+
+// The report, and the status: the verdict's, or 3 where it could not be written. Where a read failed the tape is not known, and nothing is said of it.
+fn conclude(judge: Judge, read: Went) -> u8
+    ensures { λ r. ⌜ loops.Judged (judge) (read .kind) r ⌝ }
+{
+    if has_failed(read) {
+        return status(read);
+    }
+    let j = judge.end();
     let mut out = [0u8; 512];
-    let n = put_report(&mut out, j);
-    let went = write_whole(&out[..n]);
+    let n = put_judgement(j, &mut out);
+    let went = write_whole(going(), &out[..n]);
     if has_failed(went) {
         return status(went);
     }
@@ -64,16 +78,13 @@ fn tell(j: Judgement) -> u8
     judging::status(v)
 }
 
-// It answers its status. What it reads and writes no contract can say; what it writes of the bytes read is judging's and report's. Where a read failed,
-// the tape is not known, and nothing is said of it.
+// It answers its status. What it reads and writes no contract can say; what it writes of the bytes read is judging's and report's.
 pub fn run(fd: i32) -> u8
     ensures { λ r. ⌜ loops.Judged-or-failed r ⌝ }
 {
-    let t = all_pieces(fd);
-    let went = t.went;
-    if has_failed(went) {
-        return status(went);
-    }
+    let mut piece = [0u8; 65536];
+    let t = all_pieces(fd, &mut piece);
     let judge = t.judge;
-    tell(judge.end())
+    let read = t.went;
+    conclude(judge, read)
 }

@@ -6,7 +6,9 @@ ghost use lib.ListN.{length};
 ghost use Rattle.session.specs.Walk.{In-front, at-first, text-for, walk-after, last-text};
 ghost use Rattle.programs.specs.Loops as loops;
 use crate::flow::Went;
+use crate::flow::brought;
 use crate::flow::goes_on;
+use crate::flow::going;
 use crate::flow::has_failed;
 use crate::flow::read_piece;
 use crate::flow::status;
@@ -29,27 +31,24 @@ struct Turn {
 // Where out is the one that `run` lends, there is room for all that a piece prints; and for a last line.
 fn put_lines(w: Walk, piece: &[u8], out: &mut [u8]) -> Fed
     requires { ⌜ (length (now piece) ≤ loops.walk-piece) × (loops.walk-lent ≡ length (now out)) ⌝ }
-    ensures { λ r. ⌜ (r .walk ≡ walk-after w (now (piece .entry))) × (r .at ≡ length (text-for w (now (piece .entry)))) × In-front (r .at) (now (out .exit)) ⌝ }
+    ensures { λ r. ⌜ (r .walk ≡ walk-after w (now (piece .entry))) × loops.Put (r .at) (now (out .exit)) (text-for w (now (piece .entry))) × In-front (r .at) (now (out .exit)) ⌝ }
 {
     feed(w, piece, out)
 }
 
 fn put_last(w: Walk, out: &mut [u8]) -> usize
     requires { ⌜ loops.walk-lent ≡ length (now out) ⌝ }
-    ensures { λ r. ⌜ (r ≡ length (last-text w)) × In-front r (now (out .exit)) ⌝ }
+    ensures { λ r. ⌜ loops.Put r (now (out .exit)) (last-text w) × In-front r (now (out .exit)) ⌝ }
 {
     finish(w, out)
 }
 
 // One read, what is printed for it, one write.
-fn one_piece(fd: i32, w: Walk, told: bool, out: &mut [u8]) -> Turn
-    requires { ⌜ loops.walk-lent ≡ length (now out) ⌝ }
-    ensures { λ r. ⌜ loops.Turned walk-after w (r .walk) (r .went .kind) ⌝ }
+fn one_piece(fd: i32, w: Walk, told: bool, piece: &mut [u8], out: &mut [u8]) -> Turn
+    requires { ⌜ (length (now piece) ≤ loops.walk-piece) × (loops.walk-lent ≡ length (now out)) ⌝ }
+    ensures { λ r. ⌜ loops.Turned walk-after w (r .walk) (r .went) (now (piece .exit)) ⌝ }
 {
-    let mut piece = [0u8; 768];
-    let got = read_piece(fd, &mut piece);
-    let n = got.count;
-    let came = got.went;
+    let came = read_piece(fd, piece);
     if !goes_on(came) {
         return Turn {
             walk: w,
@@ -57,25 +56,26 @@ fn one_piece(fd: i32, w: Walk, told: bool, out: &mut [u8]) -> Turn
             told,
         };
     }
+    let n = brought(came);
     let told = hinted(told, &piece[..n]);
     let f = put_lines(w, &piece[..n], out);
     let at = f.at;
-    let went = write_whole(&out[..at]);
+    let went = write_whole(came, &out[..at]);
     let walk = f.walk;
     Turn { walk, went, told }
 }
 
 // Nothing says that the input ends, so the turns are counted.
-fn all_pieces(fd: i32, headed: Went, out: &mut [u8]) -> Turn
-    requires { ⌜ loops.walk-lent ≡ length (now out) ⌝ }
-    ensures { λ r. ⌜ loops.Looped walk-after (λ w. true) at-first (r .walk) (r .went .kind) ⌝ }
+fn all_pieces(fd: i32, headed: Went, piece: &mut [u8], out: &mut [u8]) -> Turn
+    requires { ⌜ (length (now piece) ≤ loops.walk-piece) × (loops.walk-lent ≡ length (now out)) ⌝ }
+    ensures { λ r. ⌜ loops.Looped walk-after (λ w. true) at-first (r .walk) (r .went) ⌝ }
 {
     let mut turns = 0u64;
     let mut walk = begin();
     let mut went = headed;
     let mut told = false;
     while turns < u64::MAX && goes_on(went) {
-        let t = one_piece(fd, walk, told, out);
+        let t = one_piece(fd, walk, told, piece, out);
         walk = t.walk;
         went = t.went;
         told = t.told;
@@ -84,20 +84,16 @@ fn all_pieces(fd: i32, headed: Went, out: &mut [u8]) -> Turn
     Turn { walk, went, told }
 }
 
-fn walk_all(fd: i32, out: &mut [u8]) -> u8
+// The end of the input: a last line. Where a read or a write has failed there is none, and the status says so.
+fn conclude(w: Walk, read: Went, out: &mut [u8]) -> u8
     requires { ⌜ loops.walk-lent ≡ length (now out) ⌝ }
-    ensures { λ r. ⌜ loops.Done-or-failed r ⌝ }
+    ensures { λ r. ⌜ loops.Concluded (read .kind) r ⌝ }
 {
-    let head = header(out);
-    let headed = write_whole(&out[..head]);
-    let t = all_pieces(fd, headed, out);
-    let read = t.went;
     if has_failed(read) {
         return status(read);
     }
-    let w = t.walk;
     let last = put_last(w, out);
-    let went = write_whole(&out[..last]);
+    let went = write_whole(going(), &out[..last]);
     status(went)
 }
 
@@ -105,6 +101,12 @@ fn walk_all(fd: i32, out: &mut [u8]) -> u8
 pub fn run(fd: i32) -> u8
     ensures { λ r. ⌜ loops.Done-or-failed r ⌝ }
 {
-    let mut out = [0u8; 98432];
-    walk_all(fd, &mut out)
+    let mut piece = [0u8; 640];
+    let mut out = [0u8; 82048];
+    let head = header(&mut out);
+    let headed = write_whole(going(), &out[..head]);
+    let t = all_pieces(fd, headed, &mut piece, &mut out);
+    let w = t.walk;
+    let read = t.went;
+    conclude(w, read, &mut out)
 }

@@ -1,101 +1,99 @@
+-- `programs::draw::one_piece` meets its contract: all that was read is fed, or nothing was read (proofs/Turns). Assumes nothing.
 use borrow.Author.Needs.{needs}
+use native.Mathlib.Omega.{arith}
+use mathlib.Core.Path.{sym}
+use lib.Seq.{length-take-le}
 use mathlib.Core.Path.{refl}
-use mathlib.Core.Logic.{inl, inr}
+use mathlib.Core.Logic.{inr}
 use borrow.Author.Tests.{not-true, not-false}
-use Rattle.programs.proofs.Turns.{stopped, some-came}
+use Rattle.session.specs.Draw.{piece-behind}
+use Rattle.programs.proofs.Turns.{stopped, turned}
 use Rattle.programs.proofs.draw.one_piece.Statement.{statement}
 use Rattle.programs.proofs.draw.one_piece.Tie as tie
-use Rattle.programs.proofs.draw.one_piece.Reads as reads
-use Rattle.programs.proofs.draw.one_piece.Lts as lts
-use Rattle.programs.proofs.draw.put_lines.Reads as put-lines-reads
-use Rattle.programs.proofs.flow.goes_on.Reads as goes-on-reads
-use Rattle.programs.proofs.flow.read_piece.Reads as read-piece-reads
-use Rattle.programs.proofs.flow.write_whole.Reads as write-whole-reads
-use Rattle.programs.proofs.hint.hinted.Reads as hinted-reads
 
--- src/draw.rt:78:30
-slice-aggregate-read-piece : tie.Need-slice-aggregate-read-piece
-slice-aggregate-read-piece c = search needs
-
--- src/draw.rt:78:9
 read-piece-requires : tie.Need-read-piece-requires
 read-piece-requires c κs = search needs
 
--- src/draw.rt:81:9
 goes-on-requires : tie.Need-goes-on-requires
 goes-on-requires c κs = search needs
 
--- src/draw.rt:82:9
+same-length : tie.Need-same-length
+same-length c = search needs
+
 returns : tie.Need-returns
 returns c =
     let g = c .before .goes-on in
     let got = c .before .before .before .before .read-piece in
-    inr (refl, stopped (got .result .went .kind) (g .result) (g .ensures) (not-true (g .result) (c .if1 .taken)))
+    inr (refl, stopped (got .result .kind) (g .result) (g .ensures) (not-true (g .result) (c .if1 .taken)))
 
--- src/draw.rt:88:29
-array-share-prefix-piece : tie.Need-array-share-prefix-piece
-array-share-prefix-piece c = search needs
+brought-requires : tie.Need-brought-requires
+brought-requires c κs = search needs
 
--- src/draw.rt:88:29
+slice-reshare-prefix-hinted : tie.Need-slice-reshare-prefix-hinted
+slice-reshare-prefix-hinted c = search needs
+
 slice-aggregate-hinted : tie.Need-slice-aggregate-hinted
-slice-aggregate-hinted c = search needs
+slice-aggregate-hinted c = sym (length-take-le _ _ (omega (arith, c .before .brought .ensures, c .before .before .before .before .before .before .read-piece .ensures .0 .0)))
 
--- src/draw.rt:88:9
 hinted-requires : tie.Need-hinted-requires
 hinted-requires c κs = search needs
 
--- src/draw.rt:89:26
-array-share-prefix-piece-2 : tie.Need-array-share-prefix-piece-2
-array-share-prefix-piece-2 c = search needs
+slice-reshare-prefix-put-lines : tie.Need-slice-reshare-prefix-put-lines
+slice-reshare-prefix-put-lines c = search needs
 
--- src/draw.rt:89:26
 slice-aggregate-put-lines : tie.Need-slice-aggregate-put-lines
-slice-aggregate-put-lines c = search needs
+slice-aggregate-put-lines c = sym (length-take-le _ _ (omega (arith, c .before .before .before .brought .ensures, c .before .before .before .before .before .before .before .before .read-piece .ensures .0 .0)))
 
--- src/draw.rt:89:9
 put-lines-requires : tie.Need-put-lines-requires
-put-lines-requires c κs = search needs
+put-lines-requires c κs =
+    let n = c .before .before .before .before .brought in
+    let got = c .before .before .before .before .before .before .before .before .before .read-piece in
+    let pre = c .before .before .before .before .before .before .before .before .before .before .before .before .before .pre in
+    let o = length-take-le (n .result) (got .last .1 .0) (omega (arith, n .ensures, got .ensures .0 .0)) in
+    (omega (arith, o, n .ensures, got .ensures .0 .0, pre .0), pre .1)
 
--- src/draw.rt:91:28
 slice-reshare-prefix-write-whole : tie.Need-slice-reshare-prefix-write-whole
 slice-reshare-prefix-write-whole c = search needs
 
--- src/draw.rt:91:28
 slice-aggregate-write-whole : tie.Need-slice-aggregate-write-whole
 slice-aggregate-write-whole c = search needs
 
--- src/draw.rt:91:9
 write-whole-requires : tie.Need-write-whole-requires
 write-whole-requires c κs = search needs
 
--- src/draw.rt:73:1
-same-length : tie.Need-same-length
-same-length c = search needs
+same-length-2 : tie.Need-same-length-2
+same-length-2 c = search needs
 
--- src/draw.rt:73:1
+same-length-3 : tie.Need-same-length-3
+same-length-3 c = search needs
+
 returns-2 : tie.Need-returns-2
 returns-2 c =
-    let g = c .before .before .before .before .before .before .before .before .before .before .before .goes-on in
-    let got = c .before .before .before .before .before .before .before .before .before .before .before .before .before .before .read-piece in
-    let came = some-came _ (got .result .count) (got .result .went .kind) (g .result) (got .ensures) (g .ensures) (not-false (g .result) (c .before .before .before .before .before .before .before .before .before .before .if1 .left)) in
-    inl (_, came, c .before .before .before .before .before .put-lines .ensures .0)
+    let g = c .before .before .before .before .before .before .before .before .before .before .before .before .goes-on in
+    let got = c .before .before .before .before .before .before .before .before .before .before .before .before .before .before .before .read-piece in
+    let n = c .before .before .before .before .before .before .before .before .before .before .brought in
+    let put = c .before .write-whole in
+    turned piece-behind _ _ (got .result) (put .result) (n .result) _ (g .result) (got .ensures .0) (g .ensures) (not-false (g .result) (c .before .before .before .before .before .before .before .before .before .before .before .if1 .left)) (n .ensures) (put .ensures .0)
+    (c .before .before .before .before .before .put-lines .ensures .0)
 
 pub one-piece-spec : {M : Type 1} → statement M
 one-piece-spec =
     tie.close
     (tie.spec
-    slice-aggregate-read-piece
     read-piece-requires
     goes-on-requires
+    same-length
     returns
-    array-share-prefix-piece
+    brought-requires
+    slice-reshare-prefix-hinted
     slice-aggregate-hinted
     hinted-requires
-    array-share-prefix-piece-2
+    slice-reshare-prefix-put-lines
     slice-aggregate-put-lines
     put-lines-requires
     slice-reshare-prefix-write-whole
     slice-aggregate-write-whole
     write-whole-requires
-    same-length
+    same-length-2
+    same-length-3
     returns-2)

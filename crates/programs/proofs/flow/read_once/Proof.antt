@@ -1,3 +1,4 @@
+-- `programs::flow::read_once` meets its contract: a count above 0 is a piece, and each other end has read none. Assumes nothing.
 use borrow.Author.Needs.{needs}
 use native.Mathlib.Omega.{arith}
 use mathlib.Core.Path.{refl}
@@ -5,75 +6,52 @@ use mathlib.Core.Logic.{inl}
 use Rattle.programs.proofs.Turns.{brought-none}
 use Rattle.programs.proofs.flow.read_once.Statement.{statement}
 use Rattle.programs.proofs.flow.read_once.Tie as tie
-use Rattle.programs.proofs.flow.read_once.Reads as reads
-use Rattle.programs.proofs.flow.read_once.Lts as lts
-use Rattle.io.proofs.count.Reads as count-reads
-use Rattle.libc.proofs.read.Reads as read-reads
-use Rattle.os.proofs.errno.Reads as errno-reads
-use Rattle.os.proofs.fail.Reads as fail-reads
-use Rattle.programs.proofs.flow.moved_none.Reads as moved-none-reads
 
--- src/flow.rt:64:9
 read-requires : tie.Need-read-requires
 read-requires c κs = search needs
 
--- src/flow.rt:65:9
 count-requires : tie.Need-count-requires
 count-requires c κs = search needs
 
--- src/flow.rt:67:9
 same-length : tie.Need-same-length
 same-length c = search needs
 
--- src/flow.rt:67:9
 returns : tie.Need-returns
 returns c = (c .before .count .ensures .0 .0, c .before .count .ensures .0 .1, inl (refl, omega (arith, c .if1 .taken)))
 
--- src/flow.rt:70:9
 moved-none-requires : tie.Need-moved-none-requires
 moved-none-requires c κs = search needs
 
--- src/flow.rt:70:9
 same-length-2 : tie.Need-same-length-2
 same-length-2 c = search needs
 
--- src/flow.rt:70:9
 returns-2 : tie.Need-returns-2
 returns-2 c = brought-none _ _ _ 1 (c .moved-none .ensures) (omega arith)
 
--- src/flow.rt:72:8
 errno-requires : tie.Need-errno-requires
 errno-requires c κs = search needs
 
--- src/flow.rt:73:9
 moved-none-requires-2 : tie.Need-moved-none-requires-2
 moved-none-requires-2 c κs = search needs
 
--- src/flow.rt:73:9
 same-length-3 : tie.Need-same-length-3
 same-length-3 c = search needs
 
--- src/flow.rt:73:9
 returns-3 : tie.Need-returns-3
 returns-3 c = brought-none _ _ _ 4 (c .moved-none2 .ensures) (omega arith)
 
--- src/flow.rt:75:14
 slice-aggregate-fail : tie.Need-slice-aggregate-fail
 slice-aggregate-fail c = search needs
 
--- src/flow.rt:75:5
 fail-requires : tie.Need-fail-requires
 fail-requires c κs = search needs
 
--- src/flow.rt:76:5
 moved-none-requires-3 : tie.Need-moved-none-requires-3
 moved-none-requires-3 c κs = search needs
 
--- src/flow.rt:61:1
 same-length-4 : tie.Need-same-length-4
 same-length-4 c = search needs
 
--- src/flow.rt:61:1
 returns-4 : tie.Need-returns-4
 returns-4 c = brought-none _ _ _ 2 (c .moved-none3 .ensures) (omega arith)
 

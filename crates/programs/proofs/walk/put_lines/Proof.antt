@@ -1,31 +1,28 @@
+-- `programs::walk::put_lines` meets its contract: what is lent has room for a piece (proofs/Rooms). Assumes nothing.
 use borrow.Author.Needs.{needs}
 use Prim.Native.Nat.{suc, _*_}
 use mathlib.Core.Path.{ap, _∙_}
 use lib.ListN.{length}
 use Rattle.session.specs.declared.walk.Fed.{Fed}
-use Rattle.programs.proofs.Rooms.{with-room, walk-roomy}
+use Rattle.programs.proofs.Rooms.{with-room, walk-roomy, put-front}
 use Rattle.programs.proofs.walk.put_lines.Statement.{statement}
 use Rattle.programs.proofs.walk.put_lines.Tie as tie
-use Rattle.programs.proofs.walk.put_lines.Reads as reads
-use Rattle.programs.proofs.walk.put_lines.Lts as lts
-use Rattle.session.proofs.walk.feed.Reads as feed-reads
 
--- src/walk.rt:34:5
 feed-requires : tie.Need-feed-requires
 feed-requires c κs = search needs
 
--- src/walk.rt:30:1
 same-length : tie.Need-same-length
 same-length c = search needs
 
--- src/walk.rt:30:1
 returns : tie.Need-returns
 returns c =
     let a = c .before .before .before .before .before .before .args in
     let pre = c .before .before .before .before .before .before .pre in
     let f = c .before .before .feed in
-    let e = f .ensures .0 ∙ with-room (128 * suc (length (a .piece .now))) (a .out .now) _ _ (walk-roomy (a .piece .now) (a .out .now) (pre .0) (pre .1)) in
-    (ap (λ (x : Fed). x .walk) e, ap (λ (x : Fed). x .at) e, f .ensures .2)
+    let o = walk-roomy (a .piece .now) (a .out .now) (pre .0) (pre .1) in
+    let e = f .ensures .0 ∙ with-room (128 * suc (length (a .piece .now))) (a .out .now) _ _ o in
+    let l = f .ensures .1 ∙ with-room (128 * suc (length (a .piece .now))) (a .out .now) _ _ o in
+    (ap (λ (x : Fed). x .walk) e, put-front _ _ _ _ l (ap (λ (x : Fed). x .at) e) (f .ensures .2 .0), f .ensures .2)
 
 pub put-lines-spec : {M : Type 1} → statement M
 put-lines-spec = tie.close (tie.spec feed-requires same-length returns)
