@@ -6,7 +6,7 @@ use native.Mathlib.Nat.{add-comm}
 use native.Mathlib.Omega.{arith}
 use mathlib.Core.Path.{_≡_, refl, sym, ap, _∙_}
 use mathlib.Core.Bool.{Bool, true, false, cond, _&&_, and-true, and-assoc}
-use mathlib.Core.List.{List, [], _∷_, _++_, append-assoc, append-nil}
+use mathlib.Core.List.{List, [], _∷_, _++_, append-nil}
 use lib.Dec.{eqb}
 use lib.ListN.{length, take, drop, set, drop-of-length-le, length-drop, length-set, List·getD-eq-default}
 use lib.Seq.{drop-cons, drop-drop, drop-set-lt, take-suc-set, take-set-le, take-take, take-all, take-suc, set-out, set-split, getD-drop, getD-take, getD-set-same}

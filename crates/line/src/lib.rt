@@ -3,10 +3,10 @@
 // A table or line that changes is lent and changed where it lies. A lent array that is looked at as a slice has its length, so no caller has to promise it.
 ghost use mathlib.Core.Path.{_≡_};
 ghost use mathlib.Core.Bool.{cond};
-ghost use lib.Dec.{eqb, leb};
+ghost use lib.Dec.{eqb};
 ghost use lib.ListN.{set};
 ghost use Rattle.rules.specs.Line.{at, count};
-ghost use Rattle.line.specs.Tables.{lead, insert, place, pop, lower, later, no-task, more, time-in, with-time};
+ghost use Rattle.line.specs.Tables.{lead, insert, place, pop, lower, later, more, time-in, with-time};
 
 // A task's number, 0 for idle.
 pub struct TaskID(pub u8);

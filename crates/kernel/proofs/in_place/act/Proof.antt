@@ -1,5 +1,5 @@
 -- `act` is steppedOf on the tables: a refused command ends as Ends says, and an accepted one is carried out. Assumes nothing.
-use mathlib.Core.Path.{_≡_, ap, sym, _∙_}
+use mathlib.Core.Path.{ap, _∙_}
 use borrow.Author.Needs.{needs}
 use Rattle.kernel.specs.declared.Stepped.{Stepped}
 use Rattle.kernel.specs.Public.{said}

@@ -1,9 +1,8 @@
 -- `step` in place is testedOf on the tables: those that fail the test stay as they are, and of those that pass it the step is `act`. Assumes nothing.
-use mathlib.Core.Path.{_≡_, refl, sym, ap, _∙_}
+use mathlib.Core.Path.{_≡_, sym, _∙_}
 use mathlib.Core.Bool.{true, false}
 use borrow.Author.Tests.{not-true, not-false}
 use borrow.Author.Needs.{needs}
-use Rattle.kernel.specs.Public.{said}
 use Rattle.kernel.specs.Step.{tables, testedOf}
 use Rattle.kernel.specs.Test.{testOf}
 use Rattle.kernel.proofs.in_place.step.Statement.{statement}
