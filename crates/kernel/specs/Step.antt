@@ -12,7 +12,11 @@ use Rattle.line.specs.Tables.{place, pop, lower, later, more, with-time, time-i
 use Rattle.kernel.specs.declared.Kernel.{Kernel}
 use Rattle.kernel.specs.declared.Stepped.{Stepped}
 use Rattle.kernel.specs.declared.command.Answer.{Answer}
-use Rattle.kernel.specs.declared.command.Case.{Case}
+use Rattle.kernel.specs.Test.{testOf}
+
+-- ---- the tables that are lent, as the state that they are
+abbrev pub tables : List ℕ → List ℕ → List ℕ → List ℕ → List ℕ → List ℕ → List ℕ → List ℕ → ℕ → Bool → Kernel
+tables b r d h w u c q n s = record { base = b; ready = r; delayed = d; held = h; way = w; until = u; ceiling = c; waiter = q; clock = n; started = s }
 
 -- ---- the tables with other parts
 abbrev pub with-ready : Kernel → List ℕ → Kernel
@@ -121,6 +125,20 @@ carriedOf k c =
     (c .op) (advancedOf k (c .value))
 
 -- ---- the refusals: the rules' checks behind 4, over what they look at
+
+-- What the tests of a command look at: the runner's cells; the base of the task that the command names; the ceiling of the object that it names, who waits on it, and how many hold it.
+pub record Case : Type 0 where
+  pub started : Bool
+  pub clock : ℕ
+  pub runner : ℕ
+  pub base : ℕ
+  pub held : ℕ
+  pub way : ℕ
+  pub named : ℕ
+  pub ceiling : ℕ
+  pub waiter : ℕ
+  pub holders : ℕ
+
 abbrev pub checksOf : Command → Case → List (Bool × ℕ)
 checksOf c s =
     let uses = within 7 last-op (c .op) in
@@ -179,6 +197,10 @@ refused n x = record { code = n; running = record { 0 = x }; released = record {
 -- the step without the test (of a sound state it is stepOf: proofs/Whole, step-meets)
 unfoldable pub steppedOf : Kernel → Command → Stepped
 steppedOf k c = cond (eqb (refusal-on k c) 0) (carriedOf k c) (record { next = k; answer = refused (refusal-on k c) (cond (k .started) (first k) 0) })
+
+-- the step with the test: tables that fail it are answered 1, 0, 0 and stay as they are
+unfoldable pub testedOf : Kernel → Command → Stepped
+testedOf k c = cond (testOf k) (steppedOf k c) (record { next = k; answer = refused 1 0 })
 
 -- ---- the question
 abbrev pub dueCount : ℕ → ℕ → ℕ → ℕ

@@ -1,4 +1,5 @@
-// The kernel by value: its tables, the step, and the question "Wakes left". (The test of a saved state: crate soundness.)
+// The kernel by value: its tables, the step, and the question "Wakes left". (The test of a saved state: crate soundness. A step takes the tables into locals and
+// lends them: in_place.)
 ghost use mathlib.Core.Path.{_≡_};
 ghost use Rattle.rules.specs.Machine.{fresh};
 ghost use Rattle.kernel.specs.View.{encode};
@@ -6,7 +7,8 @@ ghost use Rattle.kernel.specs.Public.{said, isSound, stepOf, leftOf};
 ghost use Rattle.kernel.specs.Step as step;
 
 mod command;
-mod ops;
+mod in_place;
+mod refusals;
 
 pub use command::Answer;
 pub use command::Command;
@@ -94,96 +96,85 @@ impl Kernel {
     pub fn step(self, c: Command) -> Stepped
         ensures { λ r. ⌜ r ≡ stepOf self (said c) ⌝ }
     {
-        if !soundness::tested(
-            &self.base,
-            &self.ready,
-            &self.delayed,
-            &self.held,
-            &self.way,
-            &self.until,
-            self.ceiling,
-            self.waiter,
-            self.clock,
-            self.started,
-        ) {
-            return Stepped {
-                next: self,
-                answer: refused(1, 0),
-            };
-        }
-        let s = command::looked_at(
+        let mut base = self.base;
+        let mut ready = self.ready;
+        let mut delayed = self.delayed;
+        let mut held = self.held;
+        let mut way = self.way;
+        let mut until = self.until;
+        let mut ceiling = self.ceiling;
+        let mut waiter = self.waiter;
+        let mut clock = self.clock;
+        let mut started = self.started;
+        let answer = in_place::step(
+            &mut base,
+            &mut ready,
+            &mut delayed,
+            &mut held,
+            &mut way,
+            &mut until,
+            &mut ceiling,
+            &mut waiter,
+            &mut clock,
+            &mut started,
             c,
-            &self.base,
-            &self.ready,
-            &self.held,
-            &self.way,
-            self.ceiling,
-            self.waiter,
-            self.clock,
-            self.started,
         );
-        let code = c.refusal(s);
-        if code != 0 {
-            return Stepped {
-                next: self,
-                answer: refused(code, line::choose(self.started, self.ready[0], 0)),
-            };
-        }
-        self.carried(c)
+        let next = Kernel {
+            base,
+            ready,
+            delayed,
+            held,
+            way,
+            until,
+            ceiling,
+            waiter,
+            clock,
+            started,
+        };
+        Stepped { next, answer }
     }
 
     // The step that trusts its state to be sound and does not test it: of a sound state it is `step`. Any tables get one answer, which for a
-    // forged state is no step of document 01. (`step` does not call it: the state would be copied once more for each step.)
+    // forged state is no step of document 01.
     pub fn step_trusting(self, c: Command) -> Stepped
         ensures { λ r. ⌜ r ≡ step.steppedOf self (said c) ⌝ }
     {
-        let s = command::looked_at(
+        let mut base = self.base;
+        let mut ready = self.ready;
+        let mut delayed = self.delayed;
+        let mut held = self.held;
+        let mut way = self.way;
+        let mut until = self.until;
+        let mut ceiling = self.ceiling;
+        let mut waiter = self.waiter;
+        let mut clock = self.clock;
+        let mut started = self.started;
+        let answer = in_place::act(
+            &mut base,
+            &mut ready,
+            &mut delayed,
+            &mut held,
+            &mut way,
+            &mut until,
+            &mut ceiling,
+            &mut waiter,
+            &mut clock,
+            &mut started,
             c,
-            &self.base,
-            &self.ready,
-            &self.held,
-            &self.way,
-            self.ceiling,
-            self.waiter,
-            self.clock,
-            self.started,
         );
-        let code = c.refusal(s);
-        if code != 0 {
-            return Stepped {
-                next: self,
-                answer: refused(code, line::choose(self.started, self.ready[0], 0)),
-            };
-        }
-        self.carried(c)
-    }
-
-    // An accepted command, carried out.
-    fn carried(self, c: Command) -> Stepped
-        ensures { λ r. ⌜ r ≡ step.carriedOf self (said c) ⌝ }
-    {
-        let op = c.op;
-        match op {
-            1 => self.created(TaskID(c.a), c.b),
-            2 => self.declared(POId(c.a), c.b),
-            3 => self.begun(),
-            4 => if self.clock < c.value {
-                self.slept(c.value)
-            } else {
-                self.yielded()
-            },
-            5 => self.waking(),
-            7 => self.held_by_runner(POId(c.a), 1),
-            8 => self.closing(POId(c.a), c.b),
-            9 => self.closed(0),
-            10 => if c.b == 1 {
-                self.held_by_runner(POId(c.a), 2)
-            } else {
-                self.awaiting(POId(c.a))
-            },
-            11 => self.closing(POId(c.a), c.b),
-            _ => self.advanced(c.value),
-        }
+        let next = Kernel {
+            base,
+            ready,
+            delayed,
+            held,
+            way,
+            until,
+            ceiling,
+            waiter,
+            clock,
+            started,
+        };
+        Stepped { next, answer }
     }
 
     // How many accepted Wakes there are until the one that releases the task, that one counted; 0 where it is not delayed and due.
@@ -211,17 +202,6 @@ impl Kernel {
                 self.clock,
             ),
         }
-    }
-}
-
-// The answer to a refused command: its number, who runs, and nobody released.
-fn refused(code: u8, running: u8) -> Answer
-    ensures { λ r. ⌜ r ≡ step.refused code running ⌝ }
-{
-    Answer {
-        code,
-        running: TaskID(running),
-        released: TaskID(0),
     }
 }
 

@@ -1,11 +1,12 @@
 // Tables of 32 tasks and 8 objects, and lines of tasks in them: look up, store, place, take the front off, count. (The tests of a whole line: crate order.)
 // Each function is total: a lookup past the end is 0, a store past the end does nothing. No table of 32 goes into a call inside a loop over 32.
+// A table or line that changes is lent and changed where it lies. A lent array that is looked at as a slice has its length, so no caller has to promise it.
 ghost use mathlib.Core.Path.{_≡_};
 ghost use mathlib.Core.Bool.{cond};
-ghost use lib.Dec.{eqb, leb};
+ghost use lib.Dec.{eqb};
 ghost use lib.ListN.{set};
 ghost use Rattle.rules.specs.Line.{at, count};
-ghost use Rattle.line.specs.Tables.{lead, insert, place, pop, lower, later, no-task, more, time-in, with-time};
+ghost use Rattle.line.specs.Tables.{lead, insert, place, pop, lower, later, more, time-in, with-time};
 
 // A task's number, 0 for idle.
 pub struct TaskID(pub u8);
@@ -48,16 +49,15 @@ pub fn of_object(table: [u8; 8], o: POId) -> u8
     }
 }
 
-pub fn with_task(table: [u8; 32], t: TaskID, v: u8) -> [u8; 32]
-    ensures { λ r. ⌜ r ≡ set table (t .0) v ⌝ }
+pub fn set_task(table: &mut [u8; 32], t: TaskID, v: u8)
+    ensures { λ _. ⌜ now (table .exit) ≡ set (now (table .entry)) (t .0) v ⌝ }
 {
-    let mut out = table;
+    let cells: &mut [u8] = table;
     let n = t.0;
     if n < 32 {
         let i = n as usize;
-        out[i] = v;
+        cells[i] = v;
     }
-    out
 }
 
 pub fn set_time(until: &mut [u64; 32], t: TaskID, v: u64)
@@ -70,16 +70,15 @@ pub fn set_time(until: &mut [u64; 32], t: TaskID, v: u64)
     }
 }
 
-pub fn with_object(table: [u8; 8], o: POId, v: u8) -> [u8; 8]
-    ensures { λ r. ⌜ r ≡ set table (o .0) v ⌝ }
+pub fn set_object(table: &mut [u8; 8], o: POId, v: u8)
+    ensures { λ _. ⌜ now (table .exit) ≡ set (now (table .entry)) (o .0) v ⌝ }
 {
-    let mut out = table;
+    let cells: &mut [u8] = table;
     let n = o.0;
     if n < 8 {
         let i = n as usize;
-        out[i] = v;
+        cells[i] = v;
     }
-    out
 }
 
 // The one number or the other.
@@ -92,12 +91,19 @@ pub fn choose(test: bool, a: u8, b: u8) -> u8
 // ---- place, and take the front off
 
 // How many stand before the first with an active priority below p.
-pub fn lead_level(line: [u8; 32], base: [u8; 32], ceiling: [u8; 8], held: [u8; 32], p: u8) -> usize
-    ensures { λ r. ⌜ r ≡ lead (lower base ceiling held p) line ⌝ }
+pub fn front_level(
+    line: &[u8; 32],
+    base: &[u8; 32],
+    ceiling: [u8; 8],
+    held: &[u8; 32],
+    p: u8,
+) -> usize
+    ensures { λ r. ⌜ r ≡ lead (lower (now (base .entry)) ceiling (now (held .entry)) p) (now (line .entry)) ⌝ }
 {
+    let cells: &[u8] = line;
     let mut i = 0;
     while i < 32 {
-        let x = line[i];
+        let x = cells[i];
         if 32 <= x {
             return i;
         }
@@ -113,12 +119,13 @@ pub fn lead_level(line: [u8; 32], base: [u8; 32], ceiling: [u8; 8], held: [u8; 3
 }
 
 // How many stand before the first with a time after v.
-pub fn lead_time(line: [u8; 32], until: &[u64; 32], v: u64) -> usize
-    ensures { λ r. ⌜ r ≡ lead (later (now (until .entry)) v) line ⌝ }
+pub fn front_time(line: &[u8; 32], until: &[u64; 32], v: u64) -> usize
+    ensures { λ r. ⌜ r ≡ lead (later (now (until .entry)) v) (now (line .entry)) ⌝ }
 {
+    let cells: &[u8] = line;
     let mut i = 0;
     while i < 32 {
-        let x = line[i];
+        let x = cells[i];
         if x == 0 {
             return i;
         }
@@ -149,55 +156,55 @@ pub fn lead_task(line: [u8; 32], t: TaskID) -> u8
     n
 }
 
-pub fn insert_at(line: [u8; 32], at: usize, t: TaskID) -> [u8; 32]
-    ensures { λ r. ⌜ r ≡ insert at (t .0) line ⌝ }
+// t at a place of the line; what stood there and behind it moves back, the last entry first.
+pub fn put_at(line: &mut [u8; 32], at: usize, t: TaskID)
+    ensures { λ _. ⌜ now (line .exit) ≡ insert at (t .0) (now (line .entry)) ⌝ }
 {
-    let mut out = line;
-    let mut carry = t.0;
-    let mut i = at;
-    while i < 32 {
-        let x = line[i];
-        out[i] = carry;
-        carry = x;
-        i += 1;
+    let cells: &mut [u8] = line;
+    if at < 32 {
+        let mut i = 31;
+        while at < i {
+            cells[i] = cells[i - 1];
+            i -= 1;
+        }
+        cells[at] = t.0;
     }
-    out
 }
 
 // t at the tail of p. The head of p is the tail of p + 1.
-pub fn at_level(
-    line: [u8; 32],
-    base: [u8; 32],
+pub fn put_level(
+    line: &mut [u8; 32],
+    base: &[u8; 32],
     ceiling: [u8; 8],
-    held: [u8; 32],
+    held: &[u8; 32],
     p: u8,
     t: TaskID,
-) -> [u8; 32]
-    ensures { λ r. ⌜ r ≡ place (lower base ceiling held p) (t .0) line ⌝ }
+)
+    ensures { λ _. ⌜ now (line .exit) ≡ place (lower (now (base .entry)) ceiling (now (held .entry)) p) (t .0) (now (line .entry)) ⌝ }
 {
-    let i = lead_level(line, base, ceiling, held, p);
-    insert_at(line, i, t)
+    let i = front_level(line, base, ceiling, held, p);
+    put_at(line, i, t);
 }
 
 // t by its time, behind those of an equal one.
-pub fn at_time(line: [u8; 32], until: &[u64; 32], v: u64, t: TaskID) -> [u8; 32]
-    ensures { λ r. ⌜ r ≡ place (later (now (until .entry)) v) (t .0) line ⌝ }
+pub fn put_time(line: &mut [u8; 32], until: &[u64; 32], v: u64, t: TaskID)
+    ensures { λ _. ⌜ now (line .exit) ≡ place (later (now (until .entry)) v) (t .0) (now (line .entry)) ⌝ }
 {
-    let i = lead_time(line, until, v);
-    insert_at(line, i, t)
+    let i = front_time(line, until, v);
+    put_at(line, i, t);
 }
 
-pub fn without_front(line: [u8; 32]) -> [u8; 32]
-    ensures { λ r. ⌜ r ≡ pop line ⌝ }
+// The line without its front: each entry one place forward, and the last place free.
+pub fn drop_front(line: &mut [u8; 32])
+    ensures { λ _. ⌜ now (line .exit) ≡ pop (now (line .entry)) ⌝ }
 {
-    let mut out = line;
+    let cells: &mut [u8] = line;
     let mut i = 0;
     while i < 31 {
-        out[i] = line[i + 1];
+        cells[i] = cells[i + 1];
         i += 1;
     }
-    out[31] = 0;
-    out
+    cells[31] = 0;
 }
 
 // ---- count

@@ -1,0 +1,178 @@
+// The step on lent tables: an accepted command is carried out where they lie, a refused one leaves them as they are.
+// (What each op does to them: crate ops. When it is refused: refusals.)
+ghost use mathlib.Core.Path.{_≡_};
+ghost use Rattle.rules.specs.Line.{at};
+ghost use Rattle.kernel.specs.Public.{said};
+ghost use Rattle.kernel.specs.Step as step;
+ghost use Rattle.kernel.specs.Step.{tables};
+use crate::command::Answer;
+use crate::command::Command;
+use crate::refusals;
+use line::POId;
+use line::TaskID;
+
+// The answer to a refused command: its number, who runs, and nobody released.
+pub(crate) fn refused(code: u8, running: u8) -> Answer
+    ensures { λ r. ⌜ r ≡ step.refused code running ⌝ }
+{
+    Answer {
+        code,
+        running: TaskID(running),
+        released: TaskID(0),
+    }
+}
+
+// The answer of an accepted command: the running task is the front of the ready line, 0 before Start.
+fn accepted(started: bool, front: u8, released: u8) -> Answer
+    ensures { λ r. ⌜ r ≡ step.accepted started front released ⌝ }
+{
+    Answer {
+        code: 0,
+        running: TaskID(line::choose(started, front, 0)),
+        released: TaskID(released),
+    }
+}
+
+// An accepted command, carried out: the released task, 0 for nobody.
+fn carry(
+    base: &mut [u8; 32],
+    ready: &mut [u8; 32],
+    delayed: &mut [u8; 32],
+    held: &mut [u8; 32],
+    way: &mut [u8; 32],
+    until: &mut [u64; 32],
+    ceiling: &mut [u8; 8],
+    waiter: &mut [u8; 8],
+    clock: &mut u64,
+    started: &mut bool,
+    c: Command,
+) -> u8
+    ensures { λ r. ⌜ (tables (now (base .exit)) (now (ready .exit)) (now (delayed .exit)) (now (held .exit)) (now (way .exit)) (now (until .exit)) (now (ceiling .exit)) (now (waiter .exit)) (now (clock .exit)) (now (started .exit)) ≡ (step.carriedOf (tables (now (base .entry)) (now (ready .entry)) (now (delayed .entry)) (now (held .entry)) (now (way .entry)) (now (until .entry)) (now (ceiling .entry)) (now (waiter .entry)) (now (clock .entry)) (now (started .entry))) (said c)) .next) × (step.accepted (now (started .exit)) (at (now (ready .exit)) 0) r ≡ (step.carriedOf (tables (now (base .entry)) (now (ready .entry)) (now (delayed .entry)) (now (held .entry)) (now (way .entry)) (now (until .entry)) (now (ceiling .entry)) (now (waiter .entry)) (now (clock .entry)) (now (started .entry))) (said c)) .answer) ⌝ }
+{
+    let op = c.op;
+    let tops = *ceiling;
+    match op {
+        1 => ops::create(base, ready, tops, held, TaskID(c.a), c.b),
+        2 => ops::declare(ceiling, POId(c.a), c.b),
+        3 => ops::begin(started),
+        4 => if *clock < c.value {
+            ops::sleep(ready, delayed, until, c.value)
+        } else {
+            ops::give_way(base, ready, held, tops)
+        },
+        5 => {
+            let t = ops::due(delayed, until, *clock);
+            if t == 0 {
+                0
+            } else {
+                ops::wake(base, ready, delayed, held, until, tops, TaskID(t))
+            }
+        }
+        7 => ops::hold(ready, held, way, POId(c.a), 1),
+        8 | 11 => {
+            let t = ops::waiting(waiter, POId(c.a), c.b);
+            if t == 0 {
+                ops::close(base, ready, held, way, tops)
+            } else {
+                ops::serve(base, ready, held, tops, waiter, POId(c.a), TaskID(t));
+                ops::close(base, ready, held, way, tops);
+                t
+            }
+        }
+        9 => ops::close(base, ready, held, way, tops),
+        10 => if c.b == 1 {
+            ops::hold(ready, held, way, POId(c.a), 2)
+        } else {
+            ops::queue(ready, waiter, POId(c.a))
+        },
+        _ => ops::advance(clock, c.value),
+    }
+}
+
+// The step with no test of the tables, in place.
+pub(crate) fn act(
+    base: &mut [u8; 32],
+    ready: &mut [u8; 32],
+    delayed: &mut [u8; 32],
+    held: &mut [u8; 32],
+    way: &mut [u8; 32],
+    until: &mut [u64; 32],
+    ceiling: &mut [u8; 8],
+    waiter: &mut [u8; 8],
+    clock: &mut u64,
+    started: &mut bool,
+    c: Command,
+) -> Answer
+    ensures { λ r. ⌜ (tables (now (base .exit)) (now (ready .exit)) (now (delayed .exit)) (now (held .exit)) (now (way .exit)) (now (until .exit)) (now (ceiling .exit)) (now (waiter .exit)) (now (clock .exit)) (now (started .exit)) ≡ (step.steppedOf (tables (now (base .entry)) (now (ready .entry)) (now (delayed .entry)) (now (held .entry)) (now (way .entry)) (now (until .entry)) (now (ceiling .entry)) (now (waiter .entry)) (now (clock .entry)) (now (started .entry))) (said c)) .next) × (r ≡ (step.steppedOf (tables (now (base .entry)) (now (ready .entry)) (now (delayed .entry)) (now (held .entry)) (now (way .entry)) (now (until .entry)) (now (ceiling .entry)) (now (waiter .entry)) (now (clock .entry)) (now (started .entry))) (said c)) .answer) ⌝ }
+{
+    let tops = *ceiling;
+    let waits = *waiter;
+    let code = refusals::refusal(base, ready, held, way, tops, waits, *clock, *started, c);
+    if code != 0 {
+        let shown = line::choose(*started, ready[0], 0);
+        return refused(code, shown);
+    }
+    let t = carry(
+        base,
+        ready,
+        delayed,
+        held,
+        way,
+        until,
+        ceiling,
+        waiter,
+        clock,
+        started,
+        c,
+    );
+    let on = *started;
+    let front = ready[0];
+    accepted(on, front, t)
+}
+
+// The step on lent tables that are tested first: those that are not sound stay as they are.
+pub(crate) fn step(
+    base: &mut [u8; 32],
+    ready: &mut [u8; 32],
+    delayed: &mut [u8; 32],
+    held: &mut [u8; 32],
+    way: &mut [u8; 32],
+    until: &mut [u64; 32],
+    ceiling: &mut [u8; 8],
+    waiter: &mut [u8; 8],
+    clock: &mut u64,
+    started: &mut bool,
+    c: Command,
+) -> Answer
+    ensures { λ r. ⌜ (tables (now (base .exit)) (now (ready .exit)) (now (delayed .exit)) (now (held .exit)) (now (way .exit)) (now (until .exit)) (now (ceiling .exit)) (now (waiter .exit)) (now (clock .exit)) (now (started .exit)) ≡ (step.testedOf (tables (now (base .entry)) (now (ready .entry)) (now (delayed .entry)) (now (held .entry)) (now (way .entry)) (now (until .entry)) (now (ceiling .entry)) (now (waiter .entry)) (now (clock .entry)) (now (started .entry))) (said c)) .next) × (r ≡ (step.testedOf (tables (now (base .entry)) (now (ready .entry)) (now (delayed .entry)) (now (held .entry)) (now (way .entry)) (now (until .entry)) (now (ceiling .entry)) (now (waiter .entry)) (now (clock .entry)) (now (started .entry))) (said c)) .answer) ⌝ }
+{
+    let tops = *ceiling;
+    let waits = *waiter;
+    if !soundness::tested(
+        base,
+        ready,
+        delayed,
+        held,
+        way,
+        until,
+        tops,
+        waits,
+        *clock,
+        *started,
+    ) {
+        return refused(1, 0);
+    }
+    act(
+        base,
+        ready,
+        delayed,
+        held,
+        way,
+        until,
+        ceiling,
+        waiter,
+        clock,
+        started,
+        c,
+    )
+}
