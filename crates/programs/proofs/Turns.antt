@@ -1,11 +1,11 @@
 -- Loops over pieces of input, for every program: what holds at each turn, how a turn keeps it, and what it says at the end. Assumes nothing.
-use Prim.Native.Nat.{ℕ, zero, suc, _+_, _*_, _≤_}
+use Prim.Native.Nat.{ℕ, zero, suc, _+_, _≤_}
 use native.Mathlib.Omega.{arith}
 use mathlib.Core.Bool.{Bool, true, false, not, cond, false≢true}
 use mathlib.Core.Path.{_≡_, refl, ap, sym, subst, _∙_}
 use mathlib.Core.List.{List, [], _∷_, _++_}
 use mathlib.Core.Logic.{_⊎_, inl, inr, ⊎-elim}
-use borrow.Author.Tests.{eqb-true, eq-eqb, not-true, not-false}
+use borrow.Author.Tests.{eqb-true}
 use lib.Dec.{T, eqb, leb, leb→le, le→leb}
 use lib.ListN.{length, take}
 use Rattle.session.specs.declared.draw.Draw.{Draw}

@@ -1,7 +1,6 @@
 // The programs walk, draw and judge, over any descriptor: what is read there is handed to session, or to judging, and what is printed of it is written to
 // standard output. Each answers its status: 0 where it did its work (judge: the tape agrees), 1 (judge) differs, 2 (judge) refused, 3 where a read or a
 // write failed. A failed read or write ends the work at once, and nothing is carried out or printed of what was not read.
-ghost use mathlib.Core.Path.{_≡_};
 ghost use Rattle.programs.specs.Loops as loops;
 
 pub mod draw;

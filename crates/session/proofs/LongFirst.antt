@@ -3,11 +3,10 @@
 use Prim.Native.Nat.{ℕ, suc, _<_}
 use native.Mathlib.Omega.{arith}
 use mathlib.Core.Bool.{Bool, true, false, cond}
-use mathlib.Core.Path.{_≡_, refl, ap, sym, _∙_}
+use mathlib.Core.Path.{_≡_, refl, ap, _∙_}
 use mathlib.Core.List.{List, [], _∷_, _++_, append-assoc, append-nil}
 use lib.Dec.{eqb}
 use lib.ListN.{length}
-use Rattle.rules.specs.Line.{empty}
 use Rattle.text.specs.Words.{line-end}
 use Rattle.text.specs.FirstLine.{refused-with}
 use Rattle.text.specs.Lines.{ended, begins, last-piece, lines}

@@ -1,6 +1,5 @@
 -- `programs::flow::read_piece` meets its contract: what the last call brought is kept, and an interrupted one is made again. Assumes nothing.
 use borrow.Author.Needs.{needs}
-use Prim.Native.Nat.{_≤_}
 use native.Mathlib.Omega.{arith}
 use mathlib.Core.Path.{_≡_, refl}
 use mathlib.Core.Logic.{inr}
