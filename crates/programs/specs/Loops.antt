@@ -65,18 +65,18 @@ draw-lent = draw-room * suc draw-piece
 abbrev pub draw-lot : ℕ
 draw-lot = 384
 
--- A turn of a loop, from the state s to t: some bytes were read, at the front of the buffer, and t stands behind all of them; or nothing was read, and the work stops.
+-- A turn of a loop, from the state s to t: some bytes were read, at the front of the buffer, and t stands behind all of them; or the work stops, and t is s. (It says nothing of what was written.)
 abbrev pub Turned : {S : Type 0} → (S → List ℕ → S) → S → S → Went → List ℕ → Type 0
 Turned after s t went buffer = ((1 ≤ length (take (went .count) buffer)) × (t ≡ after s (take (went .count) buffer))) ⊎ ((t ≡ s) × T (stops (went .kind)))
 
--- A whole loop, from s to t: t stands behind all pieces that were read, and none of these is empty. It ended because a read gave nothing, a read or a write
+-- A whole loop, from s to t: there are pieces, none of them empty, behind which t stands. (That they are those that were read no contract can say.) It ended because a read gave nothing, a read or a write
 -- failed, nothing more is wanted, or all turns are used up.
 abbrev pub Looped : {S : Type 0} → (S → List ℕ → S) → (S → Bool) → S → S → Went → Type 0
 Looped after wants s t went =
     (ps : List (List ℕ)) × None-empty ps × (t ≡ behind after s ps)
     × (T (stops (went .kind)) ⊎ T (not (wants t)) ⊎ (all-turns ≤ length ps))
 
--- Draws in a loop, from d to e: e stands behind some draws. It ended because none is left, a write failed, or all turns are used up.
+-- Draws in a loop, from d to e: e stands behind some draws. It ended because none is left, the work stops, or all turns are used up.
 abbrev pub Drawn : Draw → Draw → Went → Type 0
 Drawn d e went = (n : ℕ) × (e ≡ some-behind n d) × (T (stops (went .kind)) ⊎ (e .left ≡ 0) ⊎ (all-turns * draw-lot ≤ n))
 
