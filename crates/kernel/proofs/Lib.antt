@@ -12,4 +12,5 @@ pub mod Passed
 pub mod Tested
 pub mod Question
 pub mod Ends
+pub mod Meets
 pub mod Single

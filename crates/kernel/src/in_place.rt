@@ -1,8 +1,10 @@
 // The step on lent tables: an accepted command is carried out where they lie, a refused one leaves them as they are.
 // (What each op does to them: crate ops. When it is refused: refusals.)
+ghost use Prim.Native.Nat.{ℕ, _<_, _^_};
 ghost use mathlib.Core.Path.{_≡_};
+ghost use lib.ListN.{length};
 ghost use Rattle.rules.specs.Line.{at};
-ghost use Rattle.kernel.specs.Public.{said};
+ghost use Rattle.kernel.specs.Public.{said, stepOf};
 ghost use Rattle.kernel.specs.Step as step;
 ghost use Rattle.kernel.specs.Step.{tables};
 use crate::command::Answer;
@@ -89,8 +91,9 @@ fn carry(
     }
 }
 
-// The step with no test of the tables, in place.
-pub(crate) fn act(
+// The step that trusts the tables to be those of a sound state, and does not test them. Any tables get one answer, which for those of a
+// forged state is no step of document 01.
+pub fn step_trusting(
     base: &mut [u8; 32],
     ready: &mut [u8; 32],
     delayed: &mut [u8; 32],
@@ -130,8 +133,32 @@ pub(crate) fn act(
     accepted(on, front, t)
 }
 
-// The step on lent tables that are tested first: those that are not sound stay as they are.
-pub(crate) fn step(
+// What the types of lent tables say, told to the logic: it knows the length of an array that is looked at as a slice, and that each number there fits. It costs nothing.
+fn sized(
+    base: &[u8; 32],
+    ready: &[u8; 32],
+    delayed: &[u8; 32],
+    held: &[u8; 32],
+    way: &[u8; 32],
+    until: &[u64; 32],
+    ceiling: &[u8; 8],
+    waiter: &[u8; 8],
+)
+    ensures { λ _. ⌜ (length (now (base .entry)) ≡ 32) × (length (now (ready .entry)) ≡ 32) × (length (now (delayed .entry)) ≡ 32) × (length (now (held .entry)) ≡ 32) × (length (now (way .entry)) ≡ 32) × (length (now (until .entry)) ≡ 32) × (length (now (ceiling .entry)) ≡ 8) × (length (now (waiter .entry)) ≡ 8) × ((t : ℕ) → at (now (until .entry)) t < 2 ^ 64) ⌝ }
+{
+    let bases: &[u8] = base;
+    let readies: &[u8] = ready;
+    let sleepers: &[u8] = delayed;
+    let hands: &[u8] = held;
+    let ways: &[u8] = way;
+    let tops: &[u8] = ceiling;
+    let waits: &[u8] = waiter;
+    let times: &[u64] = until;
+    let first = times[0];
+}
+
+// The step: tables that are not those of a sound state are answered 1, 0, 0 and stay as they are.
+pub fn step(
     base: &mut [u8; 32],
     ready: &mut [u8; 32],
     delayed: &mut [u8; 32],
@@ -144,8 +171,9 @@ pub(crate) fn step(
     started: &mut bool,
     c: Command,
 ) -> Answer
-    ensures { λ r. ⌜ (tables (now (base .exit)) (now (ready .exit)) (now (delayed .exit)) (now (held .exit)) (now (way .exit)) (now (until .exit)) (now (ceiling .exit)) (now (waiter .exit)) (now (clock .exit)) (now (started .exit)) ≡ (step.testedOf (tables (now (base .entry)) (now (ready .entry)) (now (delayed .entry)) (now (held .entry)) (now (way .entry)) (now (until .entry)) (now (ceiling .entry)) (now (waiter .entry)) (now (clock .entry)) (now (started .entry))) (said c)) .next) × (r ≡ (step.testedOf (tables (now (base .entry)) (now (ready .entry)) (now (delayed .entry)) (now (held .entry)) (now (way .entry)) (now (until .entry)) (now (ceiling .entry)) (now (waiter .entry)) (now (clock .entry)) (now (started .entry))) (said c)) .answer) ⌝ }
+    ensures { λ r. ⌜ (tables (now (base .exit)) (now (ready .exit)) (now (delayed .exit)) (now (held .exit)) (now (way .exit)) (now (until .exit)) (now (ceiling .exit)) (now (waiter .exit)) (now (clock .exit)) (now (started .exit)) ≡ (stepOf (tables (now (base .entry)) (now (ready .entry)) (now (delayed .entry)) (now (held .entry)) (now (way .entry)) (now (until .entry)) (now (ceiling .entry)) (now (waiter .entry)) (now (clock .entry)) (now (started .entry))) (said c)) .next) × (r ≡ (stepOf (tables (now (base .entry)) (now (ready .entry)) (now (delayed .entry)) (now (held .entry)) (now (way .entry)) (now (until .entry)) (now (ceiling .entry)) (now (waiter .entry)) (now (clock .entry)) (now (started .entry))) (said c)) .answer) ⌝ }
 {
+    sized(base, ready, delayed, held, way, until, ceiling, waiter);
     let tops = *ceiling;
     let waits = *waiter;
     if !soundness::tested(
@@ -162,7 +190,7 @@ pub(crate) fn step(
     ) {
         return refused(1, 0);
     }
-    act(
+    step_trusting(
         base,
         ready,
         delayed,

@@ -7,7 +7,7 @@ ghost use Rattle.kernel.specs.Public.{said, isSound, stepOf, leftOf};
 ghost use Rattle.kernel.specs.Step as step;
 
 mod command;
-mod in_place;
+pub mod in_place;
 mod refusals;
 
 pub use command::Answer;
@@ -149,7 +149,7 @@ impl Kernel {
         let mut waiter = self.waiter;
         let mut clock = self.clock;
         let mut started = self.started;
-        let answer = in_place::act(
+        let answer = in_place::step_trusting(
             &mut base,
             &mut ready,
             &mut delayed,

@@ -1,12 +1,12 @@
--- `act` is steppedOf on the tables: a refused command ends as Ends says, and an accepted one is carried out. Assumes nothing.
+-- `step_trusting` is steppedOf on the tables: a refused command ends as Ends says, and an accepted one is carried out. Assumes nothing.
 use mathlib.Core.Path.{ap, _∙_}
 use borrow.Author.Needs.{needs}
 use Rattle.kernel.specs.declared.Stepped.{Stepped}
 use Rattle.kernel.specs.Public.{said}
 use Rattle.kernel.proofs.Ends.{refused-end, accepted-end}
 use Rattle.kernel.specs.Step.{tables}
-use Rattle.kernel.proofs.in_place.act.Statement.{statement}
-use Rattle.kernel.proofs.in_place.act.Tie as tie
+use Rattle.kernel.proofs.in_place.step_trusting.Statement.{statement}
+use Rattle.kernel.proofs.in_place.step_trusting.Tie as tie
 
 refusal-requires : tie.Need-refusal-requires
 refusal-requires c κs = search needs
@@ -45,8 +45,8 @@ returns-2 c =
     let e = accepted-end k (said (a .c)) (c .before .before .before .before .before .before .before .before .before .before .before .before .before .before .refusal .result) n (c .before .before .before .before .before .before .before .before .before .before .before .before .before .if1 .left) in
     (c .before .before .carry .ensures .0 ∙ ap (λ (s : Stepped). s .next) e, c .accepted .ensures ∙ c .before .before .carry .ensures .1 ∙ ap (λ (s : Stepped). s .answer) e)
 
-pub act-spec : {M : Type 1} → statement M
-act-spec =
+pub step-trusting-spec : {M : Type 1} → statement M
+step-trusting-spec =
     tie.close
     (tie.spec
     refusal-requires
