@@ -99,7 +99,7 @@ refused-stays k d n = (rw (ne-eqb (d .code) 0 n), rw (ne-eqb (d .code) 0 n))
 pub made-steps : (k : Kernel) (d : Drawn) → d .code ≡ 0 → (stepped k (d .command) .next ≡ behindDraw k d) × (stepped k (d .command) .answer ≡ answerTo k d)
 made-steps k d e = (rw (eq-eqb (d .code) 0 e), rw (eq-eqb (d .code) 0 e))
 
--- What draw_and_step answers with the code 0 has been carried out: draw and step are both accepted, or the draw was refused.
+-- The answer of a draw with its step has the draw's code: 0 for a draw that is made, since its command is accepted, and its number for a refused one.
 -- Rules out: a drawn command that the step refuses.
 pub answered-code : (k : Kernel) (seed : ℕ) (p : Profile) → let d = drawnOf k seed p in answerTo k d .code ≡ d .code
 answered-code k seed p = go (eqb (drawnOf k seed p .code) 0) refl
