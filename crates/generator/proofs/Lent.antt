@@ -10,7 +10,7 @@ use Rattle.kernel.specs.declared.Kernel.{Kernel}
 use Rattle.generator.specs.declared.Profile.{Profile}
 use Rattle.generator.specs.declared.Drawn.{Drawn}
 use Rattle.generator.specs.declared.Generator.{Generator}
-use Rattle.generator.specs.Xorshift.{draw}
+use Rattle.draws.specs.Xorshift.{draw}
 use Rattle.generator.specs.Public.{drawnOf, DrawsWith}
 use Rattle.generator.proofs.Shipped.{seed-left-behind}
 

@@ -1,8 +1,3 @@
-pub mod Undone
-pub mod Choice
-pub mod Legal
-pub mod Exact
-pub mod Theorems
 pub mod Loops
 pub mod Tied
 pub mod Shipped

@@ -10,7 +10,7 @@ use lib.ListN.{length, getD, drop, drop-of-length-le}
 use lib.Seq.{drop-cons}
 use borrow.Author.Tests.{leb-true, leb-false, lt-ltb, le-ltb}
 use Rattle.rules.specs.Line.{at}
-use Rattle.generator.specs.Menu.{sift}
+use Rattle.draws.specs.Menu.{sift}
 use Rattle.generator.specs.Tables.{upward, sumOf, indexOf}
 
 -- clock + span fits, tested without a wrap

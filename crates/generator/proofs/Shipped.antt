@@ -26,11 +26,11 @@ use Rattle.kernel.proofs.Round.{view-encode}
 use Rattle.kernel.proofs.Written.{encode-sound, stands, step-sound}
 use Rattle.generator.specs.declared.Profile.{Profile}
 use Rattle.generator.specs.declared.Drawn.{Drawn}
-use Rattle.generator.specs.Xorshift.{draw}
-use Rattle.generator.specs.Draw as draws
-use Rattle.generator.specs.Draw.{good-profile, chosen, draw-refusal, drawn}
+use Rattle.draws.specs.Xorshift.{draw}
+use Rattle.draws.specs.Draw as draws
+use Rattle.draws.specs.Draw.{good-profile, chosen, draw-refusal, drawn}
 use Rattle.generator.specs.Public.{profileOf, toldDrawn, refusedOf, madeOf, drawnIn, drawnOf, behindDraw, unmoved, answerTo, drawsOf}
-use Rattle.generator.proofs.Theorems.{drawn-is-fine, seed-left, refused-draw, seed-lives, drawn-delay}
+use Rattle.draws.proofs.Theorems.{drawn-is-fine, seed-left, refused-draw, seed-lives, drawn-delay}
 
 -- The two ways of a draw: of a sound state it is the draw of the machine; any other is refused with 1.
 data Tested (k : Kernel) (seed : ℕ) (p : Profile) : Type 0 where

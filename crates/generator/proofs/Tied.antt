@@ -17,9 +17,9 @@ use Rattle.kernel.specs.View.{view, with-idle, nobody-or}
 use Rattle.generator.specs.declared.Drawn.{Drawn}
 use Rattle.generator.specs.declared.Profile as given
 use Rattle.generator.specs.declared.Sight.{Sight}
-use Rattle.generator.specs.Xorshift.{draw}
-use Rattle.generator.specs.Menu.{menu, span-fits, free-runner, inside, hand, eligibles, pick}
-use Rattle.generator.specs.Draw.{Profile, weigh, total, choose, chosen, no-command}
+use Rattle.draws.specs.Xorshift.{draw}
+use Rattle.draws.specs.Menu.{menu, span-fits, free-runner, inside, hand, eligibles, pick}
+use Rattle.draws.specs.Draw.{Profile, weigh, total, choose, chosen, no-command}
 use Rattle.generator.specs.Public.{profileOf, toldCommand, madeOf}
 use Rattle.generator.specs.Tables.{sightIn, worthsOf, sumOf, indexOf, kindOf, opsOf, firstsOf, secondsOf, valuesOf, commandAt, threeFrom, madeIn}
 

@@ -13,8 +13,8 @@ use Rattle.generator.specs.declared.Profile.{Profile}
 use Rattle.generator.specs.declared.Drawn.{Drawn}
 use Rattle.generator.specs.declared.Carried.{Carried}
 use Rattle.generator.specs.declared.Generator.{Generator}
-use Rattle.generator.specs.Xorshift as xorshift
-use Rattle.generator.specs.Draw as draw
+use Rattle.draws.specs.Xorshift as xorshift
+use Rattle.draws.specs.Draw as draw
 
 -- a profile of 32-bit numbers, as the definitions have it; a command and the answer of a draw, in their numbers
 abbrev pub profileOf : Profile → draw.Profile

@@ -10,9 +10,9 @@ use Rattle.generator.specs.declared.Profile.{Profile}
 use Rattle.generator.specs.declared.Drawn.{Drawn}
 use Rattle.generator.specs.declared.Sight.{Sight}
 use Rattle.generator.specs.declared.Three.{Three}
-use Rattle.generator.specs.Xorshift.{draw}
-use Rattle.generator.specs.Menu.{sift, objects}
-use Rattle.generator.specs.Draw.{good-profile}
+use Rattle.draws.specs.Xorshift.{draw}
+use Rattle.draws.specs.Menu.{sift, objects}
+use Rattle.draws.specs.Draw.{good-profile}
 use Rattle.generator.specs.Public.{profileOf}
 
 -- eligible to a runner of that base: declared, ceiling at least the base, not held

@@ -14,9 +14,9 @@ ghost use mathlib.Core.Bool.{cond};
 ghost use lib.Dec.{leb, ltb};
 ghost use lib.ListN.{length, getD};
 ghost use Rattle.rules.specs.Line.{at, every};
-ghost use Rattle.generator.specs.Xorshift as xorshift;
-ghost use Rattle.generator.specs.Menu.{sift, objects};
-ghost use Rattle.generator.specs.Draw as draws;
+ghost use Rattle.draws.specs.Xorshift as xorshift;
+ghost use Rattle.draws.specs.Menu.{sift, objects};
+ghost use Rattle.draws.specs.Draw as draws;
 ghost use Rattle.generator.specs.Public as public;
 ghost use Rattle.generator.specs.Tables as tables;
 

@@ -20,7 +20,7 @@ use Rattle.kernel.specs.declared.Stepped.{Stepped}
 use Rattle.kernel.specs.Public.{stepOf, leftOf}
 use Rattle.generator.specs.declared.Profile.{Profile}
 use Rattle.generator.specs.declared.Drawn.{Drawn}
-use Rattle.generator.specs.Draw.{good-profile, draw-refusal, drawn}
+use Rattle.draws.specs.Draw.{good-profile, draw-refusal, drawn}
 use Rattle.generator.specs.Public.{profileOf, drawnIn, drawnOf}
 use Rattle.image.specs.Layout.{kernelOf}
 use Rattle.image.specs.Calls.{told, fitted, fittedTask, toldProfile, fittedProfile, drawOn}

@@ -28,9 +28,9 @@ use Rattle.kernel.proofs.Round.{view-encode}
 use Rattle.kernel.proofs.Written.{stands, encode-sound, step-on, step-sound, refused-keeps}
 use Rattle.generator.specs.declared.Profile.{Profile}
 use Rattle.generator.specs.declared.Drawn.{Drawn}
-use Rattle.generator.specs.Draw.{good-profile, drawn}
+use Rattle.draws.specs.Draw.{good-profile, drawn}
 use Rattle.generator.specs.Public.{profileOf, toldDrawn, refusedOf, drawnIn, drawnOf}
-use Rattle.generator.proofs.Theorems.{drawn-is-fine}
+use Rattle.draws.proofs.Theorems.{drawn-is-fine}
 use Rattle.generator.proofs.Shipped.{code-in-order, drawn-accepted, draws-39}
 use Rattle.image.specs.Layout.{imageOf, kernelOf, clean, formed, isImage}
 use Rattle.image.specs.Calls.{told, packed, stepAnswer, stepImage, freshAnswer, freshImage, toldProfile, drawOn, packedDrawn, drawAnswer, drawSeed, drawValue}

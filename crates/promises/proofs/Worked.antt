@@ -12,9 +12,9 @@ use Rattle.kernel.specs.declared.command.Command.{Command}
 use Rattle.kernel.specs.View.{encode, view, tidy}
 use Rattle.kernel.specs.Public.{isSound, stepOf, stepped}
 use Rattle.generator.specs.declared.Profile.{Profile}
-use Rattle.generator.specs.Xorshift.{draw}
-use Rattle.generator.specs.Menu.{menu}
-use Rattle.generator.specs.Draw.{drawn, draw-refusal, chosen}
+use Rattle.draws.specs.Xorshift.{draw}
+use Rattle.draws.specs.Menu.{menu}
+use Rattle.draws.specs.Draw.{drawn, draw-refusal, chosen}
 use Rattle.generator.specs.Public.{drawnIn, drawnOf}
 use Rattle.promises.specs.Words.{freshOf, runOf}
 

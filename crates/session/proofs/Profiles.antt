@@ -9,7 +9,7 @@ use lib.Dec.{eqb, leb}
 use lib.ListN.{length}
 use Rattle.rules.specs.Line.{empty}
 use Rattle.generator.specs.declared.Profile.{Profile}
-use Rattle.generator.specs.Draw.{good-profile}
+use Rattle.draws.specs.Draw.{good-profile}
 use Rattle.generator.specs.Public.{profileOf}
 use Rattle.text.specs.declared.first.FirstLine.{FirstLine}
 use Rattle.text.specs.FirstLine.{fair, judged, refused-with, seed-of, text-next, settings-of, first-line-of}

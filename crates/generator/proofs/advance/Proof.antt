@@ -36,7 +36,7 @@ use denote.Triple.Entry.{onEntry}
 use denote.Triple.Spec.{Meets, tripleOf}
 use denote.Triple.Table.{entered, cited}
 use denote.Triple.Walked.{says, Stays, stay-ref, walkOf, AllGo, goes-ref, Walks, ends-at, walked, walk-meets}
-use Rattle.generator.specs.Xorshift as xorshift
+use Rattle.draws.specs.Xorshift as xorshift
 use Rattle.generator.specs.declared.Generator.{Generator}
 use Rattle.generator.proofs.Generator as T
 use Rattle.generator.proofs.Generator.Laws as T′

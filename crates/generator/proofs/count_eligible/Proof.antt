@@ -4,7 +4,7 @@ use mathlib.Core.Path.{_≡_, sym, ap, _∙_}
 use mathlib.Core.Logic.{⊎-elim}
 use native.Mathlib.Omega.{arith}
 use lib.ListN.{length}
-use Rattle.generator.specs.Menu.{sift, objects}
+use Rattle.draws.specs.Menu.{sift, objects}
 use Rattle.generator.specs.Tables.{eligibleIn, upward}
 use Rattle.generator.proofs.Loops.{sift-yes, sift-no, sift-done}
 use borrow.Author.Needs.{needs}

@@ -39,7 +39,7 @@ use denote.Triple.Spec.{Meets, tripleOf}
 use denote.Triple.Table.{entered, cited}
 use denote.Triple.Walked.{says, Stays, stay-none, walkOf, AllGo, goes-none, Walks, ends-at, walked, walk-meets}
 use denote.Exit.{yes}
-use Rattle.generator.specs.Xorshift.{draw}
+use Rattle.draws.specs.Xorshift.{draw}
 use Rattle.generator.specs.Tables.{threeFrom}
 use Rattle.generator.specs.declared.Generator.{Generator}
 use Rattle.generator.proofs.Generator as T

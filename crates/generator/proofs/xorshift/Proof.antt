@@ -1,5 +1,5 @@
 -- `generator::xorshift` meets its contract: code and definition compute to one another. Assumes nothing.
-use Rattle.generator.specs.Xorshift.{draw}
+use Rattle.draws.specs.Xorshift.{draw}
 use borrow.Author.Needs.{needs}
 use Rattle.generator.proofs.xorshift.Statement.{statement}
 use Rattle.generator.proofs.xorshift.Tie as tie

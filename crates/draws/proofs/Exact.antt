@@ -16,8 +16,8 @@ use Rattle.rules.proofs.Words.{cmd}
 use Rattle.rules.proofs.Tests.{both-true, both-false}
 use Rattle.rules.proofs.Sounds.{Sound}
 use Rattle.rules.proofs.Accepted.{check-passed}
-use Rattle.generator.specs.Menu.{Kind, menu, free-runner, inside, eligible, eligibles, sift, objects, span-fits}
-use Rattle.generator.proofs.Legal.{legal-right}
+use Rattle.draws.specs.Menu.{Kind, menu, free-runner, inside, eligible, eligibles, sift, objects, span-fits}
+use Rattle.draws.proofs.Legal.{legal-right}
 
 -- where one in the list passes the test, some are left
 sift-some : (f : ℕ → Bool) (x : ℕ) (l : List ℕ) → 1 ≤ count x l → f x ≡ true → not (empty (sift f l)) ≡ true

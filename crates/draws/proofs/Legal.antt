@@ -15,7 +15,7 @@ use Rattle.rules.specs.Refusals.{refusal}
 use Rattle.rules.proofs.Words.{All, cmd}
 use Rattle.rules.proofs.Tests.{both-true}
 use Rattle.rules.proofs.Sounds.{Sound, object-known, runner-known}
-use Rattle.generator.specs.Menu.{Kind, hand, free-runner, inside, eligible, sift, eligibles, pick, span-fits, entry-barrier, menu}
+use Rattle.draws.specs.Menu.{Kind, hand, free-runner, inside, eligible, sift, eligibles, pick, span-fits, entry-barrier, menu}
 
 sift-all : (f P : ℕ → Bool) (l : List ℕ) → All (λ x. P x ≡ true) l → All (λ x. (P x ≡ true) × (f x ≡ true)) (sift f l)
 sift-all f P [] k = tt

@@ -6,7 +6,7 @@ use native.Mathlib.Nat.{mod-lt, mul-comm, mul-assoc, add-mul, le-of-mul-le-mul-l
 use mathlib.Core.Path.{_≡_, sym, ap, _∙_}
 use mathlib.Core.Logic.{_≢_}
 use lib.Bits.{bitXor, xor-add-and, and-le-l, and-le-r, xor-lt}
-use Rattle.generator.specs.Xorshift.{left, right, draw}
+use Rattle.draws.specs.Xorshift.{left, right, draw}
 
 xor-zero : (a b : ℕ) → bitXor a b ≡ 0 → a ≡ b
 xor-zero a b e = omega (arith, xor-add-and a b, and-le-l a b, and-le-r a b)

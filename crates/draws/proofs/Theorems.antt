@@ -19,13 +19,13 @@ use Rattle.rules.proofs.Words.{cmd}
 use Rattle.rules.proofs.Tests.{both-true}
 use Rattle.rules.proofs.Sounds.{Sound, tests-sound}
 use Rattle.rules.proofs.Walk.{set-up}
-use Rattle.generator.specs.Xorshift.{draw}
-use Rattle.generator.specs.Menu.{Kind, menu, span-fits}
-use Rattle.generator.specs.Draw.{Profile, good-profile, weigh, total, choose, chosen, no-command, draw-refusal, Drawn, drawn}
-use Rattle.generator.proofs.Choice.{choose-all, ahead, chosen-by, same-sums, same-legal, entry, weighed, weigh-all, total-has, total-small}
-use Rattle.generator.proofs.Legal.{Right, legal-right}
-use Rattle.generator.proofs.Exact.{legal-exactly}
-use Rattle.generator.proofs.Undone.{draw-fits, draw-lives}
+use Rattle.draws.specs.Xorshift.{draw}
+use Rattle.draws.specs.Menu.{Kind, menu, span-fits}
+use Rattle.draws.specs.Draw.{Profile, good-profile, weigh, total, choose, chosen, no-command, draw-refusal, Drawn, drawn}
+use Rattle.draws.proofs.Choice.{choose-all, ahead, chosen-by, same-sums, same-legal, entry, weighed, weigh-all, total-has, total-small}
+use Rattle.draws.proofs.Legal.{Right, legal-right}
+use Rattle.draws.proofs.Exact.{legal-exactly}
+use Rattle.draws.proofs.Undone.{draw-fits, draw-lives}
 
 abbrev no-kind : Kind
 no-kind = record { legal = false; command = no-command }

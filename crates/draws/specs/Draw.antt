@@ -6,8 +6,8 @@ use lib.Dec.{eqb, leb, ltb}
 use Rattle.rules.specs.Line.{at, every, within}
 use Rattle.rules.specs.Machine.{Machine, Command}
 use Rattle.rules.specs.Refusals.{first-number}
-use Rattle.generator.specs.Xorshift.{draw}
-use Rattle.generator.specs.Menu.{Kind, menu}
+use Rattle.draws.specs.Xorshift.{draw}
+use Rattle.draws.specs.Menu.{Kind, menu}
 
 -- Kinds in op order 4..11, each with a weight: delay, wake, advance, open, closep, closef, entry, done.
 pub record Profile : Type 0 where

@@ -12,8 +12,8 @@ use Rattle.rules.specs.Line.{every}
 use Rattle.rules.specs.Machine.{Command}
 use Rattle.rules.proofs.Words.{All}
 use Rattle.rules.proofs.Tests.{both-true}
-use Rattle.generator.specs.Menu.{Kind}
-use Rattle.generator.specs.Draw.{weigh, total, choose, no-command}
+use Rattle.draws.specs.Menu.{Kind}
+use Rattle.draws.specs.Draw.{weigh, total, choose, no-command}
 
 -- What holds of every command that weighs something holds of the one that is chosen.
 pub choose-all : (P : Command → Type 0) (d sum : ℕ) (l : List (ℕ × Command)) → All (λ x. 1 ≤ x .0 → P (x .1)) l → sum ≤ d → d < sum + total l → P (choose d sum l)

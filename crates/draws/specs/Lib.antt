@@ -1,0 +1,3 @@
+pub mod Xorshift
+pub mod Menu
+pub mod Draw
