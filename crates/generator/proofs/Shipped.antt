@@ -96,7 +96,8 @@ made-sound k seed p e = go (ways k seed p)
 pub refused-stays : (k : Kernel) (d : Drawn) → d .code ≢ 0 → (k ≡ behindDraw k d) × (unmoved (d .code) (runningOf k) ≡ answerTo k d)
 refused-stays k d n = (rw (ne-eqb (d .code) 0 n), rw (ne-eqb (d .code) 0 n))
 
-pub made-steps : (k : Kernel) (d : Drawn) → d .code ≡ 0 → (stepped k (d .command) .next ≡ behindDraw k d) × (stepped k (d .command) .answer ≡ answerTo k d)
+pub made-steps : (k : Kernel) (d : Drawn) → d .code ≡ 0
+    → (stepped k (d .command) .next ≡ behindDraw k d) × (stepped k (d .command) .answer ≡ answerTo k d)
 made-steps k d e = (rw (eq-eqb (d .code) 0 e), rw (eq-eqb (d .code) 0 e))
 
 -- The answer of a draw with its step has the draw's code: 0 for a draw that is made, since its command is accepted, and its number for a refused one.

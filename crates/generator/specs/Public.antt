@@ -58,7 +58,9 @@ abbrev pub carriedOf : Drawn → Answer → Carried
 carriedOf d a = record { drawn = d; answer = a }
 
 abbrev pub DrawsAndSteps : Kernel → ℕ → Profile → Carried → Kernel → Type 0
-DrawsAndSteps k seed p r left = let d = drawnOf k seed p in (left ≡ behindDraw k d) × (r ≡ carriedOf d (answerTo k d))
+DrawsAndSteps k seed p r left =
+    let d = drawnOf k seed p in
+    (left ≡ behindDraw k d) × (r ≡ carriedOf d (answerTo k d))
 
 -- n draws, each with its step: the state and the seed behind them.
 unfoldable pub drawsOf : ℕ → Kernel → ℕ → Profile → Kernel × ℕ

@@ -1,4 +1,5 @@
--- What the generator's functions compute on the kernel's tables. proofs/Tied ties each to its definition over the machine.
+-- What the generator's functions compute on the kernel's tables. proofs/Tied ties each to its definition over the machine
+-- (crate draws).
 use Prim.Native.Nat.{ℕ, zero, suc, _+_, _-_, _%_, _^_}
 use mathlib.Core.Bool.{Bool, cond, not, _&&_}
 use mathlib.Core.List.{List, [], _∷_}
@@ -28,7 +29,8 @@ upward (suc n) o = o ∷ upward n (suc o)
 abbrev pub eligiblesIn : List ℕ → List ℕ → List ℕ → List ℕ → List ℕ
 eligiblesIn base ready held ceiling = sift (eligibleIn ceiling held (at base (at ready 0))) objects
 
--- What a draw looks at, by the runner, the object that it holds and in which way, the count of its eligible objects and the one that is picked;
+-- What a draw looks at, by the runner, the object that it holds and in which way, the count of its eligible objects, and the
+-- one that is picked;
 abbrev pub seenBy : ℕ → ℕ → ℕ → ℕ → ℕ → Bool → Bool → Sight
 seenBy runner hand way count object quiet room =
     record {

@@ -117,8 +117,8 @@ fn unmoved(code: u8, running: u8) -> Answer
     }
 }
 
-// A command is drawn and carried out. A draw that is made comes from a sound state, so its step need not test the state again; a refused one leaves
-// every table as it is.
+// A command is drawn and carried out. A draw that is made comes from a sound state, so its step need not test the state
+// again. A refused one leaves every table as it is.
 pub fn draw_and_step(
     base: &mut [u8; 32],
     ready: &mut [u8; 32],

@@ -1,8 +1,9 @@
 // The generator: Marsaglia's xorshift, and commands drawn by it that the kernel accepts.
 //
-// A `Generator` holds a seed that is lent, and `advance` makes a draw where it stands: all draws are made by it. A command is drawn from tables that
-// are lent (in_place, which carries it out too), and from a state by value: `draw`, and `draw_with` for a generator that is lent. Every state, seed
-// and profile gets an answer: no public function has a `requires`. specs/ says what each answer is.
+// A `Generator` holds a seed that is lent, and `advance` makes a draw where it stands: all draws are made by it.
+// A command is drawn from tables that are lent, and may be carried out there: in_place. By value there are `draw`, and
+// `draw_with` for a generator that is lent.
+// Every state, seed and profile gets an answer: no public function has a `requires`. specs/ says what each answer is.
 use kernel::Answer;
 use kernel::Command;
 use kernel::Kernel;

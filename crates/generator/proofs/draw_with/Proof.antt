@@ -1,4 +1,5 @@
--- `generator::draw_with` meets its contract: a walk of its MIR, by hand. The borrow is opened, `draw` is called on the state and the seed, the answer's seed is stored in the field, and the borrow is closed at the record with it.
+-- `generator::draw_with` meets its contract: a walk of its MIR, by hand. The borrow is opened, `draw` is called on the state and the seed,
+-- the answer's seed is stored in the field, and the borrow is closed at the record with it.
 -- All that the proof knows of `draw` is that it meets its contract. Assumes nothing.
 use mathlib.Core.Path.{_≡_, refl, ap, subst}
 use Prim.Native.Nat.{ℕ, _<_, _^_}

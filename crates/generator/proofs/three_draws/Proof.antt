@@ -1,4 +1,5 @@
--- `generator::three_draws` meets its contract: a walk of its MIR, by hand. A generator is made in a local. For each of three draws it is lent to `advance` for a lifetime that is made for the call, and taken back at the next draw. Then the three numbers are the answer, and the local is freed.
+-- `generator::three_draws` meets its contract: a walk of its MIR, by hand. A generator is made in a local. For each of three draws it is lent
+-- to `advance` for a lifetime that is made for the call, and taken back at the next draw. Then the three numbers are the answer, and the local is freed.
 -- All that the proof knows of `advance` is that it meets its contract. Assumes nothing.
 use mathlib.Core.Path.{_≡_, refl, sym, ap, subst, _∙_}
 use Prim.Native.Nat.{ℕ, _<_, _^_}
@@ -44,7 +45,6 @@ use Rattle.generator.specs.Tables.{threeFrom}
 use Rattle.generator.specs.declared.Generator.{Generator}
 use Rattle.generator.proofs.Generator as T
 use Rattle.generator.proofs.Generator.Laws as T′
-use Rattle.generator.specs.declared.Three.{Three}
 use Rattle.generator.proofs.Three as S
 use Rattle.generator.proofs.Three.Laws as S′
 use Rattle.generator.proofs.advance as advanced

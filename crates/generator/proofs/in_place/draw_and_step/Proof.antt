@@ -1,4 +1,5 @@
--- `draw_and_step` meets its contract: a refused draw leaves the tables. A draw that is made comes from a sound state, whose step needs no test (kernel, Whole). Assumes nothing.
+-- `draw_and_step` meets its contract: a refused draw leaves the tables. A draw that is made comes from a sound state, and the step of
+-- such a state needs no test (kernel, Whole: step-meets). Assumes nothing.
 use mathlib.Core.Path.{_≡_, sym, ap, _∙_}
 use Rattle.kernel.specs.declared.Kernel.{Kernel}
 use Rattle.kernel.specs.declared.Stepped.{Stepped}

@@ -1,4 +1,5 @@
--- `sound` on lent tables is isSound: `tested` makes the test of specs/Test, and Tested shows that this is isSound, for the sizes that the types give (`sized`). Assumes nothing.
+-- `sound` on lent tables is isSound: `tested` makes the test of specs/Test, and Tested shows that this is isSound, for the sizes that
+-- the types give (`sized`). Assumes nothing.
 use mathlib.Core.Path.{_∙_}
 use Rattle.kernel.specs.declared.Kernel.{Kernel}
 use Rattle.kernel.specs.Step.{tables}

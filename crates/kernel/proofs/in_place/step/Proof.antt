@@ -1,4 +1,5 @@
--- `step` in place is stepOf on the tables: those that are not sound stay as they are, and of sound ones the step is `step_trusting`, which is the rules' (Whole). Assumes nothing.
+-- `step` in place is stepOf on the tables: those that are not sound stay as they are, and of sound ones the step is
+-- `step_trusting`, which is the rules' (Whole: step-meets). Assumes nothing.
 use mathlib.Core.Path.{_≡_, sym, ap, _∙_}
 use mathlib.Core.Bool.{false}
 use borrow.Author.Tests.{not-true, not-false}
