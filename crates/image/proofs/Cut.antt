@@ -10,20 +10,22 @@ use lib.ListN.{length, replicate}
 use borrow.Author.Tests.{ne-eqb, lt-leb, leb-false}
 use Rattle.rules.specs.Line.{within}
 use Rattle.rules.specs.Machine.{Machine, Command, running}
-use Rattle.rules.specs.Refusals.{Operand, unused, task, object, priority, barrier, time, ticks, Operands, fits, last-op, operand-rows, operands, formed, refusal}
+use Rattle.rules.specs.Refusals.{Operand, unused, task, object, priority, barrier, time, ticks, Operands, fits, last-op, operand-rows, operands, refusal}
+use Rattle.rules.specs.Refusals as rules
 use Rattle.rules.specs.Run.{next, released, answer, question}
 use Rattle.rules.proofs.Lists.{all-at}
 use Rattle.rules.proofs.Tests.{tests-is, tests-every}
 use Rattle.kernel.specs.declared.Kernel.{Kernel}
 use Rattle.kernel.specs.declared.Left.{Left}
 use Rattle.kernel.specs.declared.Stepped.{Stepped}
-use Rattle.kernel.specs.Public.{stepOf, leftOf}
+use Rattle.kernel.specs.Public.{report, shape, stepOf, leftOf}
 use Rattle.generator.specs.declared.Profile.{Profile}
 use Rattle.generator.specs.declared.Drawn.{Drawn}
 use Rattle.draws.specs.Draw.{good-profile, draw-refusal, drawn}
 use Rattle.generator.specs.Public.{profileOf, drawnIn, drawnOf}
-use Rattle.image.specs.Layout.{kernelOf}
+use Rattle.layout.specs.Layout.{kernelOf, formed}
 use Rattle.image.specs.Calls.{told, fitted, fittedTask, toldProfile, fittedProfile, drawOn}
+use Rattle.image.specs.Tables.{stepRead}
 
 -- what stands in a byte: every operand but a time and ticks
 abbrev in-a-byte : Operand → Bool
@@ -56,17 +58,17 @@ module _ (n : ℕ) (h : 255 < n) where
   wide-b op = too-wide (operands op .b) (all-at (λ (r : Operands). in-a-byte (r .b) ≡ true) operand-rows op (operands (suc last-op)) refl (tests-every (λ (r : Operands). tests-is (in-a-byte (r .b))) operand-rows .sure refl))
 
 -- The command has a number above 255, so it is not formed.
-unformed : (c : Command) → leb (c .op) 255 && leb (c .a) 255 && leb (c .b) 255 ≡ false → formed c ≡ false
+unformed : (c : Command) → leb (c .op) 255 && leb (c .a) 255 && leb (c .b) 255 ≡ false → rules.formed c ≡ false
 unformed c = go (leb (c .op) 255) refl (leb (c .a) 255) refl (leb (c .b) 255) refl
   where
-    go : (x : Bool) → leb (c .op) 255 ≡ x → (y : Bool) → leb (c .a) 255 ≡ y → (z : Bool) → leb (c .b) 255 ≡ z → x && y && z ≡ false → formed c ≡ false
+    go : (x : Bool) → leb (c .op) 255 ≡ x → (y : Bool) → leb (c .a) 255 ≡ y → (z : Bool) → leb (c .b) 255 ≡ z → x && y && z ≡ false → rules.formed c ≡ false
     go false e y f z g q = rw (up-to (c .op) (leb-false (c .op) 255 e) 1 last-op (omega arith))
     go true e false f z g q = rw (wide-a (c .a) (leb-false (c .a) 255 f) (c .op), and-false)
     go true e true f false g q = rw (wide-b (c .b) (leb-false (c .b) 255 g) (c .op), and-false)
     go true e true f true g q = absurd (true≢false q)
 
 -- Two commands that are not formed are answered alike, by 4.
-module _ (m : Machine) (c : Command) (h : formed c ≡ false) where
+module _ (m : Machine) (c : Command) (h : rules.formed c ≡ false) where
   by-4 : refusal m c ≡ 4
   unfolding refusal
   by-4 = rw h
@@ -79,7 +81,7 @@ module _ (m : Machine) (c : Command) (h : formed c ≡ false) where
   unfolding answer released
   answers-4 = rw (stays, by-4)
 
-alike : (k : Kernel) (c d : Command) → formed c ≡ false → formed d ≡ false → stepOf k c ≡ stepOf k d
+alike : (k : Kernel) (c d : Command) → rules.formed c ≡ false → rules.formed d ≡ false → stepOf k c ≡ stepOf k d
 unfolding stepOf
 alike k c d h j = rw (stays _ c h, stays _ d j, answers-4 _ c h, answers-4 _ d j)
 
@@ -91,8 +93,8 @@ fitted-step k c = go (leb (c .op) 255 && leb (c .a) 255 && leb (c .b) 255) refl
     go true e = refl
     go false e = alike k (told 0 0 0 0) c refl (unformed c e)
 
-pub asked : {r : Stepped} {k : Kernel} {d : Command} (j : Kernel) (c : Command) → r ≡ stepOf k d → k ≡ j → d ≡ fitted c → r ≡ stepOf j c
-asked {d = d} j c e p q = e ∙ ap (λ (i : Kernel). stepOf i d) p ∙ ap (λ (b : Command). stepOf j b) q ∙ fitted-step j c
+pub asked : {d : Command} (s : List ℕ) (k : Kernel) (c : Command) → d ≡ fitted c → stepRead s k d ≡ stepRead s k c
+asked s k c e = ap (stepRead s k) e ∙ ap (λ (t : Stepped). cond (formed s) t (report k shape)) (fitted-step (kernelOf s) c)
 
 -- And so of the question.
 out-of-range : (k : Kernel) (t : ℕ) → 255 < t → leftOf k 0 ≡ leftOf k t

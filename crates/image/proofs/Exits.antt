@@ -12,13 +12,17 @@ use borrow.Author.Tests.{eq-eqb, ne-eqb, eqb-true}
 use Rattle.rules.specs.Machine.{Command}
 use Rattle.rules.proofs.Tests.{both-true}
 use Rattle.kernel.specs.declared.Kernel.{Kernel}
+use Rattle.kernel.specs.declared.Stepped.{Stepped}
+use Rattle.kernel.specs.declared.command.Answer.{Answer}
 use Rattle.kernel.specs.Public.{isSound, report, shape, stepOf, leftOf}
-use Rattle.image.specs.Layout.{imageOf, kernelOf, clean, formed, isImage}
+use Rattle.layout.specs.Layout.{imageOf, kernelOf, clean, formed, isImage}
 use Rattle.generator.specs.declared.Profile.{Profile}
 use Rattle.generator.specs.declared.Drawn.{Drawn}
 use Rattle.generator.specs.Public.{drawnOf, refusedOf}
 use Rattle.generator.proofs.Shipped.{refused-leaves}
-use Rattle.image.specs.Calls.{packed, packedLeft, stepAnswer, stepImage, leftAnswer, toldProfile, drawOn, packedDrawn, drawAnswer, drawSeed, drawValue}
+use Rattle.image.specs.Calls.{fitted, packed, packedLeft, stepAnswer, stepImage, leftAnswer, toldProfile, drawOn, packedDrawn, drawAnswer, drawSeed, drawValue}
+use Rattle.image.specs.Tables.{stepRead, kept}
+use Rattle.image.proofs.Cut.{asked}
 
 -- Bytes of which no state is read are no image; of others the state decides.
 unformed : (s : List ℕ) → formed s ≡ false → isImage s ≡ false
@@ -29,10 +33,10 @@ image-sound : (s : List ℕ) → formed s ≡ true → isImage s ≡ isSound (ke
 unfolding isImage
 image-sound s h = rw h
 
-module _ (s : List ℕ) (c : Command) where
-  pub none : formed s ≡ false → (1 ≡ stepAnswer s c) × (s ≡ stepImage s c)
-  unfolding stepAnswer stepImage
-  none h = let z = unformed s h in (rw z, rw z)
+-- Such bytes are 512.
+formed-size : (s : List ℕ) → formed s ≡ true → length s ≡ 512
+unfolding formed
+formed-size s h = eqb-true (length s) 512 (both-true (eqb (length s) 512) (clean s) h .0)
 
 -- A state that is not sound is refused with 1.
 unsound : (k : Kernel) (c : Command) → isSound k ≡ false → stepOf k c ≡ report k shape
@@ -47,32 +51,35 @@ unsound-draw : (k : Kernel) (seed : ℕ) (p : Profile) → isSound k ≡ false �
 unfolding drawnOf
 unsound-draw k seed p e = rw e
 
--- The kernel's step, sound or not, is what the call answers.
-module _ (s : List ℕ) (c : Command) (h : formed s ≡ true) where
-  pub answered : packed (stepOf (kernelOf s) c .answer) ≡ stepAnswer s c
+-- The kernel's step of what is read, sound or not, is what the call answers and leaves.
+module _ (s : List ℕ) (k : Kernel) (c : Command) where
+  pub step-answered : packed (stepRead s k c .answer) ≡ stepAnswer s c
   unfolding stepAnswer
-  answered = rw (image-sound s h) (go (isSound (kernelOf s)) refl)
+  step-answered = go (formed s) refl (isSound (kernelOf s)) refl
     where
-      go : (b : Bool) → isSound (kernelOf s) ≡ b → packed (stepOf (kernelOf s) c .answer) ≡ cond b (packed (stepOf (kernelOf s) c .answer)) 1
-      go true e = refl
-      go false e = rw (unsound (kernelOf s) c e)
+      go : (f : Bool) → formed s ≡ f → (b : Bool) → isSound (kernelOf s) ≡ b → packed (stepRead s k c .answer) ≡ cond (isImage s) (packed (stepOf (kernelOf s) c .answer)) 1
+      go false h b e = rw (h, unformed s h)
+      go true h true e = rw (h, image-sound s h, e)
+      go true h false e = rw (h, image-sound s h, e, unsound (kernelOf s) c e)
 
-  pub refused : stepOf (kernelOf s) c .answer .code ≢ 0 → s ≡ stepImage s c
+  pub step-left : kept s (stepRead s k c .next) (stepRead s k c .answer) ≡ stepImage s c
   unfolding stepImage
-  refused n = rw (ne-eqb (stepOf (kernelOf s) c .answer .code) 0 n) (go (isImage s))
+  step-left = go (formed s) refl (isSound (kernelOf s)) refl
     where
-      go : (b : Bool) → s ≡ cond (b && false) (imageOf (stepOf (kernelOf s) c .next)) s
-      go true = refl
-      go false = refl
+      go : (f : Bool) → formed s ≡ f → (b : Bool) → isSound (kernelOf s) ≡ b
+          → kept s (stepRead s k c .next) (stepRead s k c .answer) ≡ cond (isImage s && eqb (stepOf (kernelOf s) c .answer .code) 0) (imageOf (stepOf (kernelOf s) c .next)) s
+      go false h b e = rw (h, unformed s h)
+      go true h true e = rw (h, image-sound s h, e, eq-eqb (length s) 512 (formed-size s h))
+      go true h false e = rw (h, image-sound s h, e, unsound (kernelOf s) c e)
 
-  pub accepted : stepOf (kernelOf s) c .answer .code ≡ 0 → imageOf (stepOf (kernelOf s) c .next) ≡ stepImage s c
-  unfolding stepImage
-  accepted e = rw (image-sound s h, eq-eqb (stepOf (kernelOf s) c .answer .code) 0 e) (go (isSound (kernelOf s)) refl e)
-    where
-      go : (b : Bool) → isSound (kernelOf s) ≡ b → stepOf (kernelOf s) c .answer .code ≡ 0
-          → imageOf (stepOf (kernelOf s) c .next) ≡ cond (b && true) (imageOf (stepOf (kernelOf s) c .next)) s
-      go true q e = refl
-      go false q e = let z : _≡_ {A = ℕ} 1 0 = rw (unsound (kernelOf s) c q) at e in absurd (omega arith)
+-- The tables t and the answer a that the step of a command d that fits leaves: packed, and laid out.
+module _ {t : Kernel} {a : Answer} {d : Command} (s : List ℕ) (k : Kernel) (c : Command) (fits : d ≡ fitted c) (left : t ≡ stepRead s k d .next) (said : a ≡ stepRead s k d .answer) where
+  pub step-ends : (packed a ≡ stepAnswer s c) × (kept s t a ≡ stepImage s c)
+  step-ends =
+      let e = asked s k c fits in
+      let x = said ∙ ap (λ (r : Stepped). r .answer) e in
+      let y = left ∙ ap (λ (r : Stepped). r .next) e in
+      (ap packed x ∙ step-answered s k c, ap (kept s t) x ∙ ap (λ (j : Kernel). kept s j (stepRead s k c .answer)) y ∙ step-left s k c)
 
 -- The question.
 module _ (s : List ℕ) (t : ℕ) where
@@ -134,8 +141,3 @@ module _ (s : List ℕ) (seed span : ℕ) (weights : List ℕ) (value : ℕ) {r 
   pub accepted-draw : d .code ≡ 0 → (r ≡ drawAnswer s seed span weights) × (d .seed ≡ drawSeed s seed span weights) × (d .command .value ≡ drawValue s seed span weights value)
   unfolding drawSeed drawValue
   accepted-draw e = (packed-so, ap (λ (x : Drawn). x .seed) drawing, rw (eq-eqb (found .code) 0 (sym code-so ∙ e)) (ap (λ (x : Drawn). x .command .value) drawing))
-
--- such bytes are 512
-pub formed-size : (s : List ℕ) → formed s ≡ true → length s ≡ 512
-unfolding formed
-formed-size s h = eqb-true (length s) 512 (both-true (eqb (length s) 512) (clean s) h .0)

@@ -32,10 +32,10 @@ use Rattle.draws.specs.Draw.{good-profile, drawn}
 use Rattle.generator.specs.Public.{profileOf, toldDrawn, refusedOf, drawnIn, drawnOf}
 use Rattle.draws.proofs.Theorems.{drawn-is-fine}
 use Rattle.generator.proofs.Shipped.{code-in-order, drawn-accepted, draws-39}
-use Rattle.image.specs.Layout.{imageOf, kernelOf, clean, formed, isImage}
+use Rattle.layout.specs.Layout.{imageOf, kernelOf, clean, formed, isImage}
 use Rattle.image.specs.Calls.{told, packed, stepAnswer, stepImage, freshAnswer, freshImage, toldProfile, drawOn, packedDrawn, drawAnswer, drawSeed, drawValue}
 use Rattle.image.proofs.Exits.{left-alone}
-use Rattle.image.proofs.RoundTrip.{Bytes, image-size, image-back, bytes-are}
+use Rattle.layout.proofs.RoundTrip.{Bytes, image-size, image-back, bytes-are}
 
 -- A sound state's times are numbers of 64 bits.
 all-zero : (n : ℕ) → All (λ x. x < 2 ^ 64) (replicate n 0)

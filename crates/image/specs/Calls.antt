@@ -12,7 +12,7 @@ use Rattle.kernel.specs.Public.{stepOf, leftOf}
 use Rattle.generator.specs.declared.Profile.{Profile}
 use Rattle.generator.specs.declared.Drawn.{Drawn}
 use Rattle.generator.specs.Public.{drawnOf, refusedOf}
-use Rattle.image.specs.Layout.{imageOf, kernelOf, isImage}
+use Rattle.layout.specs.Layout.{imageOf, kernelOf, isImage}
 
 -- The command that four numbers of any size say. None is cut: 260 is not 4.
 abbrev pub told : ℕ → ℕ → ℕ → ℕ → Command

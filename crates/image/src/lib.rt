@@ -1,13 +1,16 @@
 // The model for C hosts: a chip simulator lends 512 bytes, and steps the machine that they hold.
 //
-// docs/IMAGE.md has the layout byte by byte, specs/Layout as definitions, and specs/Calls says what each call answers and leaves. Bytes of
-// every length, whatever they hold, get an answer: no exported function has a `requires`.
+// Crate layout has the bytes; specs/Calls says what each call answers and leaves. A call reads the image into tables on its stack and works
+// there; an accepted one lays them out in the image again. Bytes of every length, whatever they hold, get an answer: no exported function
+// has a `requires`.
 ghost use mathlib.Core.Path.{_≡_};
 ghost use Prim.Native.Nat.{_<_};
 ghost use Rattle.kernel.specs.Public.{said};
+ghost use Rattle.kernel.specs.Step.{tables};
 ghost use Rattle.generator.specs.Public.{refusedOf};
 ghost use Rattle.image.specs.Calls.{told, fitted, fittedTask, packed, stepAnswer, stepImage, freshAnswer, freshImage, packedLeft, leftAnswer};
 ghost use Rattle.image.specs.Calls.{fittedProfile, drawOn, packedDrawn, drawAnswer, drawSeed, drawValue};
+ghost use Rattle.image.specs.Tables.{stepRead, kept};
 use generator::Drawn;
 use generator::Profile;
 use kernel::Answer;
@@ -15,8 +18,6 @@ use kernel::Command;
 use kernel::Kernel;
 use kernel::Left;
 use kernel::TaskID;
-
-mod codec;
 
 // The command that four numbers say. One above 255 fits no byte and is never cut: such a command is refused with 4, as op 0 is.
 fn command(op: u64, a: u64, b: u64, value: u64) -> Command
@@ -75,24 +76,140 @@ fn pack_left(l: Left) -> u32
     wide(l.code) + 256 * wide(l.left)
 }
 
+// ---- The step
+
+// The step of the machine that the bytes hold, in tables that are lent: they hold the state after it. Bytes of which no state can be read are
+// answered 1, 0, 0.
+fn step_on(
+    image: &[u8],
+    base: &mut [u8; 32],
+    ready: &mut [u8; 32],
+    delayed: &mut [u8; 32],
+    held: &mut [u8; 32],
+    way: &mut [u8; 32],
+    until: &mut [u64; 32],
+    ceiling: &mut [u8; 8],
+    waiter: &mut [u8; 8],
+    clock: &mut u64,
+    started: &mut bool,
+    c: Command,
+) -> Answer
+    ensures { λ r. ⌜ (tables (now (base .exit)) (now (ready .exit)) (now (delayed .exit)) (now (held .exit)) (now (way .exit)) (now (until .exit)) (now (ceiling .exit)) (now (waiter .exit)) (now (clock .exit)) (now (started .exit)) ≡ (stepRead (now (image .entry)) (tables (now (base .entry)) (now (ready .entry)) (now (delayed .entry)) (now (held .entry)) (now (way .entry)) (now (until .entry)) (now (ceiling .entry)) (now (waiter .entry)) (now (clock .entry)) (now (started .entry))) (said c)) .next) × (r ≡ (stepRead (now (image .entry)) (tables (now (base .entry)) (now (ready .entry)) (now (delayed .entry)) (now (held .entry)) (now (way .entry)) (now (until .entry)) (now (ceiling .entry)) (now (waiter .entry)) (now (clock .entry)) (now (started .entry))) (said c)) .answer) ⌝ }
+{
+    if !layout::read(
+        image,
+        base,
+        ready,
+        delayed,
+        held,
+        way,
+        until,
+        ceiling,
+        waiter,
+        clock,
+        started,
+    ) {
+        return Answer {
+            code: 1,
+            running: TaskID(0),
+            released: TaskID(0),
+        };
+    }
+    kernel::in_place::step(
+        base,
+        ready,
+        delayed,
+        held,
+        way,
+        until,
+        ceiling,
+        waiter,
+        clock,
+        started,
+        c,
+    )
+}
+
+// An accepted command's tables are laid out in the image; a refusal leaves every byte. The answer in one number.
+fn keep(
+    image: &mut [u8],
+    base: &[u8; 32],
+    ready: &[u8; 32],
+    delayed: &[u8; 32],
+    held: &[u8; 32],
+    way: &[u8; 32],
+    until: &[u64; 32],
+    ceiling: &[u8; 8],
+    waiter: &[u8; 8],
+    clock: u64,
+    started: bool,
+    answer: Answer,
+) -> u32
+    ensures { λ r. ⌜ (r ≡ packed answer) × (now (image .exit) ≡ kept (now (image .entry)) (tables (now (base .entry)) (now (ready .entry)) (now (delayed .entry)) (now (held .entry)) (now (way .entry)) (now (until .entry)) (now (ceiling .entry)) (now (waiter .entry)) clock started) answer) ⌝ }
+{
+    let r = pack(answer);
+    if answer.code != 0 {
+        return r;
+    }
+    layout::lay(
+        image,
+        base,
+        ready,
+        delayed,
+        held,
+        way,
+        until,
+        ceiling,
+        waiter,
+        clock,
+        started,
+    );
+    r
+}
+
 // Steps the machine of an image: the answer is code + 256 * running + 65536 * released. A refusal leaves every byte.
 #[no_mangle]
 pub extern "C" fn rvn_step(image: &mut [u8], op: u64, a: u64, b: u64, value: u64) -> u32
     ensures { λ r. ⌜ (r ≡ stepAnswer (now (image .entry)) (told op a b value)) × (now (image .exit) ≡ stepImage (now (image .entry)) (told op a b value)) ⌝ }
 {
-    if !codec::is_formed(image) {
-        return 1;
-    }
-    let k = codec::decode(image);
-    let s = k.step(command(op, a, b, value));
-    let answer = s.answer;
-    let r = pack(answer);
-    if answer.code != 0 {
-        return r;
-    }
-    let next = s.next;
-    codec::store(image, codec::encode(next));
-    r
+    let mut base = [0u8; 32];
+    let mut ready = [0u8; 32];
+    let mut delayed = [0u8; 32];
+    let mut held = [0u8; 32];
+    let mut way = [0u8; 32];
+    let mut until = [0u64; 32];
+    let mut ceiling = [0u8; 8];
+    let mut waiter = [0u8; 8];
+    let mut clock = 0;
+    let mut started = false;
+    let answer = step_on(
+        image,
+        &mut base,
+        &mut ready,
+        &mut delayed,
+        &mut held,
+        &mut way,
+        &mut until,
+        &mut ceiling,
+        &mut waiter,
+        &mut clock,
+        &mut started,
+        command(op, a, b, value),
+    );
+    keep(
+        image,
+        &base,
+        &ready,
+        &delayed,
+        &held,
+        &way,
+        &until,
+        &ceiling,
+        &waiter,
+        clock,
+        started,
+        answer,
+    )
 }
 
 // Writes the fresh machine, whatever the bytes held: 0, or 1 for a wrong length.
@@ -103,7 +220,21 @@ pub extern "C" fn rvn_fresh(image: &mut [u8]) -> u32
     if image.len() != 512 {
         return 1;
     }
-    codec::store(image, codec::encode(Kernel::fresh()));
+    let none = [0u8; 32];
+    let nobody = [0u8; 8];
+    layout::lay(
+        image,
+        &none,
+        &none,
+        &none,
+        &none,
+        &none,
+        &[0; 32],
+        &nobody,
+        &nobody,
+        0,
+        false,
+    );
     0
 }
 
@@ -112,10 +243,43 @@ pub extern "C" fn rvn_fresh(image: &mut [u8]) -> u32
 pub extern "C" fn rvn_wakes_left(image: &[u8], t: u64) -> u32
     ensures { λ r. ⌜ r ≡ leftAnswer (now (image .entry)) t ⌝ }
 {
-    if !codec::is_formed(image) {
+    let mut base = [0u8; 32];
+    let mut ready = [0u8; 32];
+    let mut delayed = [0u8; 32];
+    let mut held = [0u8; 32];
+    let mut way = [0u8; 32];
+    let mut until = [0u64; 32];
+    let mut ceiling = [0u8; 8];
+    let mut waiter = [0u8; 8];
+    let mut clock = 0;
+    let mut started = false;
+    if !layout::read(
+        image,
+        &mut base,
+        &mut ready,
+        &mut delayed,
+        &mut held,
+        &mut way,
+        &mut until,
+        &mut ceiling,
+        &mut waiter,
+        &mut clock,
+        &mut started,
+    ) {
         return 1;
     }
-    let k = codec::decode(image);
+    let k = Kernel {
+        base,
+        ready,
+        delayed,
+        held,
+        way,
+        until,
+        ceiling,
+        waiter,
+        clock,
+        started,
+    };
     pack_left(k.wakes_left(task(t)))
 }
 
@@ -166,14 +330,53 @@ fn no_image(seed: u32) -> Drawn
     }
 }
 
-// The generator's draw over the state that the image holds.
-fn draw_on(image: &[u8], seed: u32, p: Profile) -> Drawn
+// The generator's draw over the state that the bytes hold, which is read into tables that are lent.
+fn draw_on(
+    image: &[u8],
+    base: &mut [u8; 32],
+    ready: &mut [u8; 32],
+    delayed: &mut [u8; 32],
+    held: &mut [u8; 32],
+    way: &mut [u8; 32],
+    until: &mut [u64; 32],
+    ceiling: &mut [u8; 8],
+    waiter: &mut [u8; 8],
+    clock: &mut u64,
+    started: &mut bool,
+    seed: u32,
+    p: Profile,
+) -> Drawn
     ensures { λ r. ⌜ r ≡ drawOn (now (image .entry)) seed p ⌝ }
 {
-    if !codec::is_formed(image) {
+    if !layout::read(
+        image,
+        base,
+        ready,
+        delayed,
+        held,
+        way,
+        until,
+        ceiling,
+        waiter,
+        clock,
+        started,
+    ) {
         return no_image(seed);
     }
-    generator::draw(codec::decode(image), seed, p)
+    generator::in_place::draw(
+        base,
+        ready,
+        delayed,
+        held,
+        way,
+        until,
+        *ceiling,
+        *waiter,
+        *clock,
+        *started,
+        seed,
+        p,
+    )
 }
 
 fn pack_drawn(d: Drawn) -> u32
@@ -195,7 +398,31 @@ pub extern "C" fn rvn_draw(
 ) -> u32
     ensures { λ r. ⌜ (r ≡ drawAnswer (now (image .entry)) (now (seed .entry)) span (now (weights .entry))) × (now (seed .exit) ≡ drawSeed (now (image .entry)) (now (seed .entry)) span (now (weights .entry))) × (now (value .exit) ≡ drawValue (now (image .entry)) (now (seed .entry)) span (now (weights .entry)) (now (value .entry))) ⌝ }
 {
-    let d = draw_on(image, *seed, profile(span, weights));
+    let mut base = [0u8; 32];
+    let mut ready = [0u8; 32];
+    let mut delayed = [0u8; 32];
+    let mut held = [0u8; 32];
+    let mut way = [0u8; 32];
+    let mut until = [0u64; 32];
+    let mut ceiling = [0u8; 8];
+    let mut waiter = [0u8; 8];
+    let mut clock = 0;
+    let mut started = false;
+    let d = draw_on(
+        image,
+        &mut base,
+        &mut ready,
+        &mut delayed,
+        &mut held,
+        &mut way,
+        &mut until,
+        &mut ceiling,
+        &mut waiter,
+        &mut clock,
+        &mut started,
+        *seed,
+        profile(span, weights),
+    );
     let r = pack_drawn(d);
     if d.code != 0 {
         return r;

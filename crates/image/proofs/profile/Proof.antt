@@ -3,7 +3,7 @@ use borrow.Author.Needs.{needs}
 use borrow.Author.Tests.{le-leb, lt-leb, eq-eqb, ne-eqb}
 use native.Mathlib.Omega.{arith}
 use lib.ListN.{length}
-use Rattle.image.proofs.RoundTrip.{eight-are}
+use Rattle.layout.proofs.RoundTrip.{eight-are}
 use Rattle.image.proofs.profile.Statement.{statement}
 use Rattle.image.proofs.profile.Tie as tie
 

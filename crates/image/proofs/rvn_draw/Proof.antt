@@ -18,7 +18,7 @@ returns : tie.Need-returns
 returns c =
     let packing = c .before .before in
     let drawing = packing .before in
-    let a = drawing .before .before .before .before .before .args in
+    let a = drawing .before .before .before .before .before .before .before .before .before .before .before .before .before .before .before .args in
     let drawn = asked-draw (a .image .now) (a .seed .now) (a .span) (a .weights .now) (drawing .draw-on .ensures) (drawing .before .profile .ensures) in
     refused-draw (a .image .now) (a .seed .now) (a .span) (a .weights .now) (a .value .now) (packing .pack-drawn .ensures) drawn (c .if1 .taken)
 
@@ -26,7 +26,7 @@ returns-2 : tie.Need-returns-2
 returns-2 c =
     let packing = c .before .before in
     let drawing = packing .before in
-    let a = drawing .before .before .before .before .before .args in
+    let a = drawing .before .before .before .before .before .before .before .before .before .before .before .before .before .before .before .args in
     let drawn = asked-draw (a .image .now) (a .seed .now) (a .span) (a .weights .now) (drawing .draw-on .ensures) (drawing .before .profile .ensures) in
     accepted-draw (a .image .now) (a .seed .now) (a .span) (a .weights .now) (a .value .now) (packing .pack-drawn .ensures) drawn (c .if1 .left)
 

@@ -1,0 +1,208 @@
+// The layout of an image: the tables of a state read off 512 bytes, and laid out in them. docs/IMAGE.md has it byte by byte, specs/Layout as
+// definitions. Bytes of every length get an answer: no public function has a `requires`.
+ghost use mathlib.Core.Path.{_≡_};
+ghost use mathlib.Core.List.{_++_, _∷_, []};
+ghost use Prim.Native.Nat.{_+_, _≤_, _<_};
+ghost use lib.ListN.{length, take, drop};
+ghost use Rattle.rules.specs.Line.{one-if};
+ghost use Rattle.line.specs.Tables.{zeros};
+ghost use Rattle.record.specs.Form.{le8, ofLe};
+ghost use Rattle.kernel.specs.Step.{tables};
+ghost use Rattle.layout.specs.Layout.{bytesOf, numbersOf, flags, spare, part, clean, formed, readOf, laid};
+use record::number_bytes;
+use record::number_of;
+
+// ---- The bytes that the state does not use
+
+// All of them are looked at, found or not: without a way out of the loop LLVM looks at many at a time.
+fn is_zero(s: &[u8], at: usize, n: usize) -> bool
+    requires { ⌜ at + n ≤ length (now s) ⌝ }
+    ensures { λ r. ⌜ r ≡ zeros (part n at (now (s .entry))) ⌝ }
+{
+    let mut zero = true;
+    let mut i: usize = 0;
+    while i < n {
+        zero = zero & (s[at + i] == 0);
+        i += 1;
+    }
+    zero
+}
+
+fn is_clean(s: &[u8]) -> bool
+    requires { ⌜ length (now s) ≡ 512 ⌝ }
+    ensures { λ r. ⌜ r ≡ clean (now (s .entry)) ⌝ }
+{
+    (s[8] <= 1) & is_zero(s, 9, 7) & is_zero(s, 192, 32) & is_zero(s, 224, 32)
+}
+
+// ---- Reading: each part into its table
+
+// n bytes from a place on into a table of that length. LLVM makes memory copies of it.
+fn copy(s: &[u8], at: usize, n: usize, table: &mut [u8])
+    requires { ⌜ (at + n ≤ length (now s)) × (length (now table) ≡ n) ⌝ }
+    ensures { λ _. ⌜ now (table .exit) ≡ part n at (now (s .entry)) ⌝ }
+{
+    let mut i: usize = 0;
+    while i < n {
+        table[i] = s[at + i];
+        i += 1;
+    }
+}
+
+fn number_at(s: &[u8], at: usize) -> u64
+    requires { ⌜ at + 8 ≤ length (now s) ⌝ }
+    ensures { λ r. ⌜ r ≡ ofLe (now (s .entry)) at ⌝ }
+{
+    let mut bytes = [0u8; 8];
+    copy(s, at, 8, &mut bytes);
+    number_of(bytes)
+}
+
+// The times, from byte 256 to the end.
+fn copy_times(s: &[u8], until: &mut [u64; 32])
+    requires { ⌜ length (now s) ≡ 512 ⌝ }
+    ensures { λ _. ⌜ now (until .exit) ≡ numbersOf 32 (drop 256 (now (s .entry))) ⌝ }
+{
+    let times: &mut [u64] = until;
+    let mut i: usize = 0;
+    while i < 32 {
+        times[i] = number_at(s, 256 + 8 * i);
+        i += 1;
+    }
+}
+
+// The state that the bytes hold, into tables that are lent. Bytes of which none can be read leave the tables as they are.
+pub fn read(
+    s: &[u8],
+    base: &mut [u8; 32],
+    ready: &mut [u8; 32],
+    delayed: &mut [u8; 32],
+    held: &mut [u8; 32],
+    way: &mut [u8; 32],
+    until: &mut [u64; 32],
+    ceiling: &mut [u8; 8],
+    waiter: &mut [u8; 8],
+    clock: &mut u64,
+    started: &mut bool,
+) -> bool
+    ensures { λ r. ⌜ (r ≡ formed (now (s .entry))) × (tables (now (base .exit)) (now (ready .exit)) (now (delayed .exit)) (now (held .exit)) (now (way .exit)) (now (until .exit)) (now (ceiling .exit)) (now (waiter .exit)) (now (clock .exit)) (now (started .exit)) ≡ readOf (now (s .entry)) (tables (now (base .entry)) (now (ready .entry)) (now (delayed .entry)) (now (held .entry)) (now (way .entry)) (now (until .entry)) (now (ceiling .entry)) (now (waiter .entry)) (now (clock .entry)) (now (started .entry)))) ⌝ }
+{
+    if s.len() != 512 {
+        return false;
+    }
+    if !is_clean(s) {
+        return false;
+    }
+    *clock = number_at(s, 0);
+    *started = s[8] == 1;
+    copy(s, 16, 8, ceiling);
+    copy(s, 24, 8, waiter);
+    copy(s, 32, 32, base);
+    copy(s, 64, 32, ready);
+    copy(s, 96, 32, delayed);
+    copy(s, 128, 32, held);
+    copy(s, 160, 32, way);
+    copy_times(s, until);
+    true
+}
+
+// ---- Writing: what is written so far grows at its end
+
+fn put(s: &mut [u8], at: usize, n: usize, v: &[u8])
+    requires { ⌜ (at + n ≤ 512) × (length (now s) ≡ 512) × (length (now v) ≡ n) ⌝ }
+    ensures { λ _. ⌜ (length (now (s .exit)) ≡ 512) × (take (at + n) (now (s .exit)) ≡ take at (now (s .entry)) ++ now (v .entry)) ⌝ }
+{
+    let mut i: usize = 0;
+    while i < n {
+        s[at + i] = v[i];
+        i += 1;
+    }
+}
+
+// A number by itself: for `put` of its bytes LLVM would find no copy of 8 bytes.
+fn put_number(s: &mut [u8], at: usize, x: u64)
+    requires { ⌜ (at + 8 ≤ 512) × (length (now s) ≡ 512) ⌝ }
+    ensures { λ _. ⌜ (length (now (s .exit)) ≡ 512) × (take (at + 8) (now (s .exit)) ≡ take at (now (s .entry)) ++ le8 x) ⌝ }
+{
+    let bytes = number_bytes(x);
+    let mut i: usize = 0;
+    while i < 8 {
+        s[at + i] = bytes[i];
+        i += 1;
+    }
+}
+
+// The times, from byte 256 to the end.
+fn put_times(s: &mut [u8], until: &[u64; 32])
+    requires { ⌜ length (now s) ≡ 512 ⌝ }
+    ensures { λ _. ⌜ (length (now (s .exit)) ≡ 512) × (now (s .exit) ≡ take 256 (now (s .entry)) ++ bytesOf (now (until .entry))) ⌝ }
+{
+    let times: &[u64] = until;
+    let mut i: usize = 0;
+    while i < 32 {
+        put_number(s, 256 + 8 * i, times[i]);
+        i += 1;
+    }
+}
+
+fn flag(b: bool) -> u8
+    ensures { λ r. ⌜ r ≡ one-if b ⌝ }
+{
+    if b { 1 } else { 0 }
+}
+
+// The clock, whether the machine is started, and the objects: the first 32 bytes.
+fn put_head(s: &mut [u8], ceiling: &[u8; 8], waiter: &[u8; 8], clock: u64, started: bool)
+    requires { ⌜ length (now s) ≡ 512 ⌝ }
+    ensures { λ _. ⌜ (length (now (s .exit)) ≡ 512) × (take 32 (now (s .exit)) ≡ le8 clock ++ flags started ++ now (ceiling .entry) ++ now (waiter .entry)) ⌝ }
+{
+    put_number(s, 0, clock);
+    put(s, 8, 8, &[flag(started), 0, 0, 0, 0, 0, 0, 0]);
+    put(s, 16, 8, ceiling);
+    put(s, 24, 8, waiter);
+}
+
+// The tables of bytes, and those that are spare: up to byte 255.
+fn put_tables(
+    s: &mut [u8],
+    base: &[u8; 32],
+    ready: &[u8; 32],
+    delayed: &[u8; 32],
+    held: &[u8; 32],
+    way: &[u8; 32],
+)
+    requires { ⌜ length (now s) ≡ 512 ⌝ }
+    ensures { λ _. ⌜ (length (now (s .exit)) ≡ 512) × (take 256 (now (s .exit)) ≡ take 32 (now (s .entry)) ++ now (base .entry) ++ now (ready .entry) ++ now (delayed .entry) ++ now (held .entry) ++ now (way .entry) ++ spare ++ spare) ⌝ }
+{
+    put(s, 32, 32, base);
+    put(s, 64, 32, ready);
+    put(s, 96, 32, delayed);
+    put(s, 128, 32, held);
+    put(s, 160, 32, way);
+    put(s, 192, 32, &[0; 32]);
+    put(s, 224, 32, &[0; 32]);
+}
+
+// The image of the state that the tables are, whatever the 512 bytes held. Bytes of another length are left as they are.
+pub fn lay(
+    image: &mut [u8],
+    base: &[u8; 32],
+    ready: &[u8; 32],
+    delayed: &[u8; 32],
+    held: &[u8; 32],
+    way: &[u8; 32],
+    until: &[u64; 32],
+    ceiling: &[u8; 8],
+    waiter: &[u8; 8],
+    clock: u64,
+    started: bool,
+)
+    ensures { λ _. ⌜ now (image .exit) ≡ laid (now (image .entry)) (tables (now (base .entry)) (now (ready .entry)) (now (delayed .entry)) (now (held .entry)) (now (way .entry)) (now (until .entry)) (now (ceiling .entry)) (now (waiter .entry)) clock started) ⌝ }
+{
+    if image.len() != 512 {
+        return;
+    }
+    put_head(image, ceiling, waiter, clock, started);
+    put_tables(image, base, ready, delayed, held, way);
+    put_times(image, until);
+}
