@@ -8,6 +8,7 @@ use borrow.Author.Tests.{le-leb, lt-leb}
 use lib.ListN.{length}
 use Rattle.kernel.specs.declared.Kernel.{Kernel}
 use Rattle.text.specs.declared.command.Spoken.{Spoken}
+use Rattle.text.specs.declared.print.Row.{Row}
 use Rattle.text.specs.declared.split.Held.{Held}
 use Rattle.text.specs.declared.split.Cut.{Cut}
 use Rattle.text.specs.declared.split.Told as said
@@ -15,9 +16,8 @@ use Rattle.decimal.specs.Buffer.{contents-after, place-after}
 use Rattle.text.specs.Commands.{command-of}
 use Rattle.text.specs.Lines.{cut-of, told-of, cuts, holds-after, held-bytes, nothing-held}
 use Rattle.text.specs.Printed.{walk-line}
-use Rattle.session.specs.declared.tell.Told.{Told}
 use Rattle.session.specs.declared.walk.Walk.{Walk}
-use Rattle.session.specs.Told.{following, state-behind, row-for, told}
+use Rattle.session.specs.Told.{following, state-behind, row-for, Tells}
 use Rattle.session.specs.Walk.{walked, state-after, number-after, text-for, walk-after, In-front, fed, fed-out}
 use Rattle.text.proofs.Bounds.{walk-short}
 use Rattle.session.proofs.Front.{in-front}
@@ -122,11 +122,11 @@ module _ (w : Walk) (p out₀ : List ℕ) where
             held = sym (holds-whole h p from c e left o y) ∙ s .held;
           }
 
-      module _ (n′ at′ next : ℕ) (said : Spoken) (t : Told) (out′ : List ℕ) (h′ : Held) (ex : next ≡ c .next)
-          (en : n′ ≡ following n) (es : said ≡ command-of (held-bytes (c .held))) (et : t ≡ told k n′ said)
-          (ea : at′ ≡ place-after 128 out at (walk-line (t .row))) (eo : out′ ≡ contents-after 128 out at (walk-line (t .row))) (eh : h′ ≡ nothing-held) where
-        pub still-again : 0 < left → c .whole ≡ true → Still (t .kernel) h′ n′ next at′ (left - 1) out′
-        still-again o y = rw (ex, eh, et, es, en) (still-line at′ out′ (rw (et, es, en) at ea) (rw (et, es, en) at eo) o y)
+      module _ (n′ at′ next : ℕ) (said : Spoken) (k′ : Kernel) (row : Row) (out′ : List ℕ) (h′ : Held) (ex : next ≡ c .next)
+          (en : n′ ≡ following n) (es : said ≡ command-of (held-bytes (c .held))) (et : Tells k n′ said row k′)
+          (ea : at′ ≡ place-after 128 out at (walk-line row)) (eo : out′ ≡ contents-after 128 out at (walk-line row)) (eh : h′ ≡ nothing-held) where
+        pub still-again : 0 < left → c .whole ≡ true → Still k′ h′ n′ next at′ (left - 1) out′
+        still-again o y = rw (ex, eh, et .0, es, en) (still-line at′ out′ (rw (et .1, es, en) at ea) (rw (et .1, es, en) at eo) o y)
 
     -- no line is left: what is left of the piece is held
     module _ (h′ : Held) (z : cuts left h p from ≡ []) (eh : holds-after left h p from ≡ h′) where

@@ -1,4 +1,4 @@
--- No second answer of session's public functions: of any arguments, only one answer meets the contract as the check states it, and of the buffer that is lent only one
+-- No second answer of session's public functions: of any arguments, only one answer meets the contract as the check states it, and of the buffer and the tables that are lent only one
 -- contents is left behind. Rules out: a contract that leaves a printed byte, or the state behind it, open. Leaves: which answer it is (specs/).
 -- (The law: crate one_answer, proofs/Law.) Assumes nothing.
 use Prim.Native.Nat.{ℕ}
@@ -12,7 +12,10 @@ use prog.Wp.{Heap}
 use ghost.Atoms.{Atoms}
 use contract.Monad.{Fun}
 use denote.Ref.{now}
-use Rattle.one_answer.proofs.Law.{OneAnswer, OneEnd, one, both}
+use Rattle.one_answer.proofs.Law.{OneAnswer, OneEnd, one, both, each-of-two}
+use Rattle.kernel.specs.declared.Kernel.{Kernel}
+use Rattle.kernel.specs.Step.{tables}
+use Rattle.text.specs.declared.print.Row.{Row}
 use Rattle.session.specs.declared.walk.Fed.{Fed}
 use Rattle.session.specs.declared.draw.Read.{Read}
 use Rattle.session.specs.declared.draw.Drew.{Drew}
@@ -41,8 +44,9 @@ module _ {M : Type 1} (𝓤 : URA M) (H : Heap 𝓤) (A : Atoms 𝓤) (mem : Mem
   pub following-single : OneAnswer 𝓤 following.ended (following.clauses 𝓤 H A mem run)
   following-single κs a g r s d e = one 𝓤 _ _ _
 
-  pub tell-single : OneAnswer 𝓤 tell.ended (tell.clauses 𝓤 H A mem run)
-  tell-single κs a g r s d e = one 𝓤 _ _ _
+  pub tell-single : OneEnd 𝓤 tell.ended (tell.clauses 𝓤 H A mem run) (Kernel × Row)
+      (λ κs r e. (tables (now (e .0)) (now (e .1 .0)) (now (e .1 .1 .0)) (now (e .1 .1 .1 .0)) (now (e .1 .1 .1 .1 .0)) (now (e .1 .1 .1 .1 .1 .0)) (now (e .1 .1 .1 .1 .1 .1 .0)) (now (e .1 .1 .1 .1 .1 .1 .1 .0)) (now (e .1 .1 .1 .1 .1 .1 .1 .1 .0)) (now (e .1 .1 .1 .1 .1 .1 .1 .1 .1 .0)), r))
+  tell-single κs a g r s d e = both 𝓤 _ _ _ each-of-two
 
   -- ---- walk
 

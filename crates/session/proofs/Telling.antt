@@ -10,15 +10,16 @@ use lib.ListN.{length, take}
 use Rattle.rules.specs.Line.{empty}
 use Rattle.kernel.specs.declared.Kernel.{Kernel}
 use Rattle.kernel.specs.declared.Stepped.{Stepped}
+use Rattle.kernel.specs.declared.command.Answer.{Answer}
 use Rattle.kernel.specs.Public.{stepOf, runningOf}
 use Rattle.text.specs.declared.command.Spoken.{Spoken}
+use Rattle.text.specs.declared.print.Row.{Row}
 use Rattle.decimal.specs.Buffer.{contents-after, place-after}
 use Rattle.text.specs.Commands.{command-of}
 use Rattle.text.specs.Lines.{held-bytes}
 use Rattle.text.specs.Printed.{walk-line}
-use Rattle.session.specs.declared.tell.Told.{Told}
 use Rattle.session.specs.declared.walk.Walk.{Walk}
-use Rattle.session.specs.Told.{following, asked, state-behind, answer-to, told}
+use Rattle.session.specs.Told.{following, asked, state-behind, unmoved, answer-to, row-of, row-for, told, Tells}
 use Rattle.session.specs.Walk.{walked, last-text, In-front, finished, finished-out}
 use Rattle.text.proofs.Bounds.{walk-short}
 use Rattle.session.proofs.Front.{in-front, put-in-front}
@@ -39,6 +40,16 @@ module _ (k : Kernel) (n : ℕ) (s : Spoken) where
       → record { kernel = r .next; row = record { n = n; op = s .op; a = s .a; b = s .b; value = s .value; code = r .answer .code; running = r .answer .running .0; released = r .answer .released .0; clock = r .next .clock } } ≡ told k n s
   unfolding state-behind answer-to
   says-one r z e = rw (eq-eqb (s .code) 0 z, e)
+
+  -- the same of tables that are lent
+  pub lent-none : (run : ℕ) (a : Answer) (r : Row) → (s .code ≡ 0 → ⊥) → run ≡ runningOf k → a ≡ unmoved (s .code) run → r ≡ row-of n s a (k .clock) → Tells k n s r k
+  unfolding state-behind answer-to
+  lent-none run a r z e ea er = (rw (ne-eqb (s .code) 0 z), rw (er, ne-eqb (s .code) 0 z, ea, e))
+
+  pub lent-one : (k′ : Kernel) (a : Answer) (r : Row) → s .code ≡ 0 → k′ ≡ stepOf k (asked s) .next → a ≡ stepOf k (asked s) .answer → r ≡ row-of n s a (k′ .clock)
+      → Tells k n s r k′
+  unfolding state-behind answer-to
+  lent-one k′ a r z ek ea er = (rw (eq-eqb (s .code) 0 z, ek), rw (er, eq-eqb (s .code) 0 z, ek, ea))
 
 -- ---- the end of the input
 
@@ -65,11 +76,11 @@ module _ (w : Walk) (out : List ℕ) where
       let e = no-byte (w .held .count) (w .held .bytes) z in
       (rw e (same-place (leb (0 + 128) (length out))), rw e (same-contents (leb (0 + 128) (length out)) out), in-front 0 out (omega arith))
 
-  module _ (n′ at′ : ℕ) (said : Spoken) (t : Told) (out′ : List ℕ)
-      (en : n′ ≡ following (w .n)) (es : said ≡ command-of (held-bytes (w .held))) (et : t ≡ told (w .kernel) n′ said)
-      (ea : at′ ≡ place-after 128 out 0 (walk-line (t .row))) (eo : out′ ≡ contents-after 128 out 0 (walk-line (t .row))) where
+  module _ (n′ at′ : ℕ) (said : Spoken) (row : Row) (out′ : List ℕ)
+      (en : n′ ≡ following (w .n)) (es : said ≡ command-of (held-bytes (w .held))) (et : row ≡ row-for (w .kernel) n′ said)
+      (ea : at′ ≡ place-after 128 out 0 (walk-line row)) (eo : out′ ≡ contents-after 128 out 0 (walk-line row)) where
     pub one-left : (w .held .count ≡ 0 → ⊥) → 0 < length (w .held .bytes) → (at′ ≡ finished w out) × (out′ ≡ finished-out w out) × In-front at′ out′
     unfolding last-text walked
     one-left z o =
         let e = some-byte (w .held .count) (w .held .bytes) z o in
-        (rw (e, append-nil, ea, et, es, en), rw (e, append-nil, eo, et, es, en), put-in-front 128 (walk-line (t .row)) out out′ at′ ea eo (walk-short (t .row)))
+        (rw (e, append-nil, ea, et, es, en), rw (e, append-nil, eo, et, es, en), put-in-front 128 (walk-line row) out out′ at′ ea eo (walk-short row))

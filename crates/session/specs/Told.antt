@@ -1,6 +1,7 @@
 -- A line of input carried out: the state behind it, and the row that is printed for it.
 use Prim.Native.Nat.{ℕ, _+_}
 use mathlib.Core.Bool.{cond}
+use mathlib.Core.Path.{_≡_}
 use lib.Dec.{eqb, ltb}
 use Rattle.rules.specs.Machine.{Command}
 use Rattle.kernel.specs.declared.Kernel.{Kernel}
@@ -23,11 +24,11 @@ unfoldable pub state-behind : Kernel → Spoken → Kernel
 state-behind k s = cond (eqb (s .code) 0) (stepOf k (asked s) .next) k
 
 -- it is answered with its code, the running task as it stands, and nobody released.
-abbrev pub unchanged : ℕ → Kernel → Answer
-unchanged code k = record { code = code; running = record { 0 = runningOf k }; released = record { 0 = 0 } }
+abbrev pub unmoved : ℕ → ℕ → Answer
+unmoved code running = record { code = code; running = record { 0 = running }; released = record { 0 = 0 } }
 
 unfoldable pub answer-to : Kernel → Spoken → Answer
-answer-to k s = cond (eqb (s .code) 0) (stepOf k (asked s) .answer) (unchanged (s .code) k)
+answer-to k s = cond (eqb (s .code) 0) (stepOf k (asked s) .answer) (unmoved (s .code) (runningOf k))
 
 -- The row: the line's number, what the line says (zeros where it is refused with 14), the answer, and the clock behind it.
 abbrev pub row-of : ℕ → Spoken → Answer → ℕ → Row
@@ -39,3 +40,7 @@ row-for k n s = row-of n s (answer-to k s) (state-behind k s .clock)
 
 abbrev pub told : Kernel → ℕ → Spoken → Told
 told k n s = record { kernel = state-behind k s; row = row-for k n s }
+
+-- a line carried out where the tables lie: they are left as the state behind it, and the row is answered
+abbrev pub Tells : Kernel → ℕ → Spoken → Row → Kernel → Type 0
+Tells k n s r left = (left ≡ state-behind k s) × (r ≡ row-for k n s)

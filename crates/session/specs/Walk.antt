@@ -9,6 +9,7 @@ use lib.Seq.{sets}
 use Rattle.rules.specs.Machine.{fresh}
 use Rattle.kernel.specs.declared.Kernel.{Kernel}
 use Rattle.kernel.specs.View.{encode}
+use Rattle.text.specs.declared.split.Held.{Held}
 use Rattle.decimal.specs.Buffer.{contents-after, place-after}
 use Rattle.text.specs.Commands.{command-of}
 use Rattle.text.specs.Lines.{lines, last-piece, cuts, holds-after, held-bytes, nothing-held}
@@ -68,6 +69,16 @@ fed w piece out = cond (roomy piece out) (record { walk = walk-after w piece; at
 
 abbrev pub fed-out : Walk → List ℕ → List ℕ → List ℕ
 fed-out w piece out = cond (roomy piece out) (sets out 0 (text-for w piece)) out
+
+-- The same of a walk whose tables are lent: the walk and the answer from their parts; and what is answered and left in the buffer.
+abbrev pub standing : Kernel → Held → ℕ → Walk
+standing k h n = record { kernel = k; held = h; n = n }
+
+abbrev pub stood : Walk → ℕ → Fed
+stood w at = record { walk = w; at = at }
+
+abbrev pub Feeds : Walk → List ℕ → List ℕ → Fed → List ℕ → Type 0
+Feeds w piece out r left = (r ≡ fed w piece out) × (left ≡ fed-out w piece out) × In-front (r .at) left
 
 abbrev pub headed : List ℕ → ℕ
 headed out = place-after header-room out 0 walk-header

@@ -6,7 +6,7 @@ ghost use Rattle.decimal.specs.Buffer.{contents-after, place-after};
 ghost use Rattle.text.specs.Lines.{held-bytes};
 ghost use Rattle.text.specs.Printed.{draw-room};
 use crate::tell::following;
-use crate::tell::tell;
+use crate::tell::tell_by_value;
 use generator::Drawn;
 use generator::Profile;
 use kernel::Kernel;
@@ -156,7 +156,7 @@ fn set_up(d: Draw, s: Spoken) -> Heard
     ensures { λ r. ⌜ r ≡ draw.set-up d s ⌝ }
 {
     let n = following(d.n);
-    let t = tell(d.kernel, n, s);
+    let t = tell_by_value(d.kernel, n, s);
     let kernel = t.kernel;
     let row = t.row;
     let profile = d.profile;
@@ -230,7 +230,7 @@ fn draw_next(d: Draw) -> Heard
     let profile = d.profile;
     let x = generator::draw(d.kernel, d.seed, profile);
     let n = following(d.n);
-    let t = tell(d.kernel, n, spoken(x));
+    let t = tell_by_value(d.kernel, n, spoken(x));
     let kernel = t.kernel;
     let row = t.row;
     let next = Draw {

@@ -1,8 +1,12 @@
-// A line carried out: the state behind it, and the row that is printed for it.
+// A line carried out where the tables lie: the state behind it, and the row that is printed for it.
 ghost use mathlib.Core.Path.{_≡_};
+ghost use Rattle.kernel.specs.Step.{tables};
 ghost use Rattle.session.specs.Told as told;
+use kernel::Answer;
 use kernel::Command;
 use kernel::Kernel;
+use kernel::TaskID;
+use kernel::in_place;
 use text::command::Spoken;
 use text::print::Row;
 
@@ -21,8 +25,79 @@ pub fn following(n: u64) -> u64
     n
 }
 
+// The answer to a line that says no command: its code, who runs, and nobody released.
+fn unmoved(code: u8, running: u8) -> Answer
+    ensures { λ r. ⌜ r ≡ told.unmoved code running ⌝ }
+{
+    Answer {
+        code,
+        running: TaskID(running),
+        released: TaskID(0),
+    }
+}
+
+// The row of a line, its answer, and the clock behind it.
+pub(crate) fn row_of(n: u64, s: Spoken, answer: Answer, clock: u64) -> Row
+    ensures { λ r. ⌜ r ≡ told.row-of n s answer clock ⌝ }
+{
+    Row {
+        n,
+        op: s.op,
+        a: s.a,
+        b: s.b,
+        value: s.value,
+        code: answer.code,
+        running: answer.running.0,
+        released: answer.released.0,
+        clock,
+    }
+}
+
 // A line that says a command is a step; one that says none changes nothing.
-pub fn tell(k: Kernel, n: u64, s: Spoken) -> Told
+pub fn tell(
+    base: &mut [u8; 32],
+    ready: &mut [u8; 32],
+    delayed: &mut [u8; 32],
+    held: &mut [u8; 32],
+    way: &mut [u8; 32],
+    until: &mut [u64; 32],
+    ceiling: &mut [u8; 8],
+    waiter: &mut [u8; 8],
+    clock: &mut u64,
+    started: &mut bool,
+    n: u64,
+    s: Spoken,
+) -> Row
+    ensures { λ r. ⌜ told.Tells (tables (now (base .entry)) (now (ready .entry)) (now (delayed .entry)) (now (held .entry)) (now (way .entry)) (now (until .entry)) (now (ceiling .entry)) (now (waiter .entry)) (now (clock .entry)) (now (started .entry))) n s r (tables (now (base .exit)) (now (ready .exit)) (now (delayed .exit)) (now (held .exit)) (now (way .exit)) (now (until .exit)) (now (ceiling .exit)) (now (waiter .exit)) (now (clock .exit)) (now (started .exit))) ⌝ }
+{
+    if s.code != 0 {
+        let answer = unmoved(s.code, line::choose(*started, ready[0], 0));
+        return row_of(n, s, answer, *clock);
+    }
+    let c = Command {
+        op: s.op,
+        a: s.a,
+        b: s.b,
+        value: s.value,
+    };
+    let answer = in_place::step(
+        base,
+        ready,
+        delayed,
+        held,
+        way,
+        until,
+        ceiling,
+        waiter,
+        clock,
+        started,
+        c,
+    );
+    row_of(n, s, answer, *clock)
+}
+
+// The same on a state by value, for draw.
+pub(crate) fn tell_by_value(k: Kernel, n: u64, s: Spoken) -> Told
     ensures { λ r. ⌜ r ≡ told.told k n s ⌝ }
 {
     if s.code != 0 {

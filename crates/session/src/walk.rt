@@ -1,5 +1,6 @@
 // The program walk, piece by piece of its input.
 ghost use mathlib.Core.Path.{_≡_};
+ghost use Rattle.kernel.specs.Step.{tables};
 ghost use Rattle.session.specs.Walk as walk;
 use crate::tell::following;
 use crate::tell::tell;
@@ -40,49 +41,164 @@ pub fn header(out: &mut [u8]) -> usize
     put_walk_header(out, 0)
 }
 
+// What stands behind a piece beside the tables: what is held of a line that has begun, how many lines there were, and how many bytes were printed.
+struct Through {
+    held: Held,
+    n: u64,
+    at: usize,
+}
+
+// The lines that end in a piece, each carried out where the tables lie. Where out has no room for a line for each byte of the piece and one
+// more, nothing is done.
+fn walk_through(
+    base: &mut [u8; 32],
+    ready: &mut [u8; 32],
+    delayed: &mut [u8; 32],
+    held: &mut [u8; 32],
+    way: &mut [u8; 32],
+    until: &mut [u64; 32],
+    ceiling: &mut [u8; 8],
+    waiter: &mut [u8; 8],
+    clock: &mut u64,
+    started: &mut bool,
+    begun: Held,
+    count: u64,
+    piece: &[u8],
+    out: &mut [u8],
+) -> Through
+    ensures { λ r. ⌜ walk.Feeds (walk.standing (tables (now (base .entry)) (now (ready .entry)) (now (delayed .entry)) (now (held .entry)) (now (way .entry)) (now (until .entry)) (now (ceiling .entry)) (now (waiter .entry)) (now (clock .entry)) (now (started .entry))) begun count) (now (piece .entry)) (now (out .entry)) (walk.stood (walk.standing (tables (now (base .exit)) (now (ready .exit)) (now (delayed .exit)) (now (held .exit)) (now (way .exit)) (now (until .exit)) (now (ceiling .exit)) (now (waiter .exit)) (now (clock .exit)) (now (started .exit))) (r .held) (r .n)) (r .at)) (now (out .exit)) ⌝ }
+{
+    let mut kept = begun;
+    let mut n = count;
+    let mut at = 0;
+    if out.len() >> 7 <= piece.len() {
+        return Through { held: kept, n, at };
+    }
+    let mut from = 0;
+    let mut left = piece.len() + 1;
+    while left > 0 {
+        let c = next_command(kept, piece, from);
+        kept = c.held;
+        if !c.whole {
+            return Through { held: kept, n, at };
+        }
+        n = following(n);
+        let row = tell(
+            base,
+            ready,
+            delayed,
+            held,
+            way,
+            until,
+            ceiling,
+            waiter,
+            clock,
+            started,
+            n,
+            c.said,
+        );
+        at = put_walk_line(out, at, row);
+        from = c.next;
+        left -= 1;
+    }
+    Through { held: kept, n, at }
+}
+
+// The walk behind a piece, from its parts.
+fn behind(kernel: Kernel, t: Through) -> Fed
+    ensures { λ r. ⌜ r ≡ walk.stood (walk.standing kernel (t .held) (t .n)) (t .at) ⌝ }
+{
+    let held = t.held;
+    Fed {
+        walk: Walk {
+            kernel,
+            held,
+            n: t.n,
+        },
+        at: t.at,
+    }
+}
+
 // A piece of input. Where out has no room for a line for each byte of the piece and one more, nothing is done.
 pub fn feed(w: Walk, piece: &[u8], out: &mut [u8]) -> Fed
     ensures { λ r. ⌜ (r ≡ walk.fed w (now (piece .entry)) (now (out .entry))) × (now (out .exit) ≡ walk.fed-out w (now (piece .entry)) (now (out .entry))) × walk.In-front (r .at) (now (out .exit)) ⌝ }
 {
-    if out.len() >> 7 <= piece.len() {
-        return Fed { walk: w, at: 0 };
-    }
-    let mut kernel = w.kernel;
-    let mut held = w.held;
-    let mut n = w.n;
-    let mut from = 0;
-    let mut at = 0;
-    let mut left = piece.len() + 1;
-    while left > 0 {
-        let c = next_command(held, piece, from);
-        held = c.held;
-        if !c.whole {
-            return Fed {
-                walk: Walk { kernel, held, n },
-                at,
-            };
-        }
-        n = following(n);
-        let t = tell(kernel, n, c.said);
-        kernel = t.kernel;
-        at = put_walk_line(out, at, t.row);
-        from = c.next;
-        left -= 1;
-    }
-    Fed {
-        walk: Walk { kernel, held, n },
-        at,
-    }
+    let k = w.kernel;
+    let mut base = k.base;
+    let mut ready = k.ready;
+    let mut delayed = k.delayed;
+    let mut held = k.held;
+    let mut way = k.way;
+    let mut until = k.until;
+    let mut ceiling = k.ceiling;
+    let mut waiter = k.waiter;
+    let mut clock = k.clock;
+    let mut started = k.started;
+    let t = walk_through(
+        &mut base,
+        &mut ready,
+        &mut delayed,
+        &mut held,
+        &mut way,
+        &mut until,
+        &mut ceiling,
+        &mut waiter,
+        &mut clock,
+        &mut started,
+        w.held,
+        w.n,
+        piece,
+        out,
+    );
+    let kernel = Kernel {
+        base,
+        ready,
+        delayed,
+        held,
+        way,
+        until,
+        ceiling,
+        waiter,
+        clock,
+        started,
+    };
+    behind(kernel, t)
 }
 
 // A last line without a line end counts if it has a byte.
 pub fn finish(w: Walk, out: &mut [u8]) -> usize
     ensures { λ r. ⌜ (r ≡ walk.finished w (now (out .entry))) × (now (out .exit) ≡ walk.finished-out w (now (out .entry))) × walk.In-front r (now (out .exit)) ⌝ }
 {
-    let held = w.held;
-    if held.count == 0 {
+    let begun = w.held;
+    if begun.count == 0 {
         return 0;
     }
-    let t = tell(w.kernel, following(w.n), held_command(held));
-    put_walk_line(out, 0, t.row)
+    let k = w.kernel;
+    let mut base = k.base;
+    let mut ready = k.ready;
+    let mut delayed = k.delayed;
+    let mut held = k.held;
+    let mut way = k.way;
+    let mut until = k.until;
+    let mut ceiling = k.ceiling;
+    let mut waiter = k.waiter;
+    let mut clock = k.clock;
+    let mut started = k.started;
+    let n = following(w.n);
+    let said = held_command(begun);
+    let row = tell(
+        &mut base,
+        &mut ready,
+        &mut delayed,
+        &mut held,
+        &mut way,
+        &mut until,
+        &mut ceiling,
+        &mut waiter,
+        &mut clock,
+        &mut started,
+        n,
+        said,
+    );
+    put_walk_line(out, 0, row)
 }

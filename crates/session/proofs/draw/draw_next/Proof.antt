@@ -36,8 +36,8 @@ following-requires c κs = search needs
 spoken-requires : tie.Need-spoken-requires
 spoken-requires c κs = search needs
 
-tell-requires : tie.Need-tell-requires
-tell-requires c κs = search needs
+tell-by-value-requires : tie.Need-tell-by-value-requires
+tell-by-value-requires c κs = search needs
 
 sub-t12 : tie.Need-sub-t12
 sub-t12 c = search needs
@@ -48,8 +48,8 @@ returns-3 c =
     let made = w .before .before .before in
     let tests = made .before .before in
     let d = tests .before .before .before .args .d in
-    let said = w .tell .ensures ∙ ap (told (d .kernel) (w .before .before .following .result)) (w .before .spoken .ensures) in
-    is-drawn d (made .draw .result) (w .before .before .following .result) (w .tell .result) (tests .before .if1 .left) (tests .if2 .left)
+    let said = w .tell-by-value .ensures ∙ ap (told (d .kernel) (w .before .before .following .result)) (w .before .spoken .ensures) in
+    is-drawn d (made .draw .result) (w .before .before .following .result) (w .tell-by-value .result) (tests .before .if1 .left) (tests .if2 .left)
     (made .draw .ensures) (w .before .before .following .ensures) said
 
 pub draw-next-spec : {M : Type 1} → statement M
@@ -63,6 +63,6 @@ draw-next-spec =
     draw-requires
     following-requires
     spoken-requires
-    tell-requires
+    tell-by-value-requires
     sub-t12
     returns-3)

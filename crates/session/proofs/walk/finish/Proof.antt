@@ -31,13 +31,14 @@ held-size c = search needs
 returns-2 : tie.Need-returns-2
 returns-2 c =
     let told = c .before .before .before .before in
-    let line = told .before in
+    let line = told .before .before .before .before .before .before .before .before .before .before .before in
     let number = line .before in
-    let start = number .before .before .before .before .before in
+    let test = number .before .before .before .before .before .before .before .before .before .before in
+    let start = test .before .before .before .before in
     let l = held-size start in
     one-left (start .args .w) (start .args .out .now) (number .following .result) (c .before .before .put-walk-line .result) (line .held-command .result)
-    (told .tell .result) (c .before .before .put-walk-line .last .0) (number .following .ensures) (line .held-command .ensures) (told .tell .ensures)
-    (c .before .before .put-walk-line .ensures .0) (c .before .before .put-walk-line .ensures .1) (number .before .if1 .left) (omega arith)
+    (told .tell .result) (c .before .before .put-walk-line .last .0) (number .following .ensures) (line .held-command .ensures) (told .tell .ensures .1)
+    (c .before .before .put-walk-line .ensures .0) (c .before .before .put-walk-line .ensures .1) (test .if1 .left) (omega arith)
 
 pub finish-spec : {M : Type 1} → statement M
 finish-spec =
