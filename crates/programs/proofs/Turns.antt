@@ -12,13 +12,11 @@ use Rattle.session.specs.declared.draw.Draw.{Draw}
 use Rattle.session.specs.Draw.{some-behind, drawn-next}
 use Rattle.judging.specs.declared.Judge.{Judge}
 use Rattle.judging.specs.Pieces.{fed, ended, judged-in}
-use Rattle.programs.specs.declared.flow.Went.{Went}
-use Rattle.programs.specs.Loops.{stops, status-of, Brought, Done-or-failed, Concluded, behind, None-empty, all-turns, Turned, Looped}
+use Rattle.flow.specs.declared.Went.{Went}
+use Rattle.flow.specs.Flow.{stops, status-of, Brought}
+use Rattle.programs.specs.Loops.{Done-or-failed, Concluded, behind, None-empty, all-turns, Turned, Looped}
 
 -- ---- one call
-
-pub brought-none : (l : List ℕ) (count kind k : ℕ) → (count ≡ 0) × (kind ≡ k) → 1 ≤ k → Brought l count kind
-brought-none l count kind k (e, f) o = (omega (arith, e), e ∙ sym (ap (λ (n : ℕ). length (take n l)) e), inr (e, omega (arith, f, o)))
 
 stops-there : (kind : ℕ) → eqb kind 0 ≡ false → T (stops kind)
 stops-there zero e = absurd (false≢true (sym e))

@@ -1,7 +1,7 @@
 -- What the programs' loops do, as far as a contract can say it: which state they are in behind the pieces that were read, and why they end. What is read and
 -- written no contract can say.
 use Prim.Native.Nat.{ℕ, suc, _*_, _≤_}
-use mathlib.Core.Bool.{Bool, true, cond, not, _&&_}
+use mathlib.Core.Bool.{Bool, true, not, _&&_}
 use mathlib.Core.Path.{_≡_}
 use mathlib.Core.List.{List, [], _∷_}
 use mathlib.Core.Logic.{_⊎_}
@@ -14,23 +14,8 @@ use Rattle.session.specs.Draw.{some-behind}
 use Rattle.judging.specs.declared.Judge.{Judge}
 use Rattle.judging.specs.Verdict.{status-of as status-on}
 use Rattle.judging.specs.Pieces.{to-come, at-first, ended, judged-in}
-use Rattle.programs.specs.declared.flow.Went.{Went}
-
--- How the work stands, by its number: it goes on (0), a read gave nothing (1), a read failed (2), a write failed (3).
-abbrev pub stops : ℕ → Bool
-stops kind = leb 1 kind
-
--- What a program answers: 0, or 3 where a read or a write failed.
-abbrev pub status-of : ℕ → ℕ
-status-of kind = cond (leb 2 kind) 3 0
-
--- A read brought so many bytes, at the front of a buffer: at least one where the work goes on, else none.
-abbrev pub Brought : List ℕ → ℕ → ℕ → Type 0
-Brought piece count kind = (count ≤ length piece) × (count ≡ length (take count piece)) × (((kind ≡ 0) × (1 ≤ count)) ⊎ ((count ≡ 0) × (1 ≤ kind)))
-
--- A write of so many bytes, by which w became r: all were taken, and the work stands as it stood; or it failed. What the last read brought is kept.
-abbrev pub Wrote : ℕ → Went → Went → Type 0
-Wrote n w r = (r .count ≡ w .count) × (((r .kind ≡ w .kind) × (r .sent ≡ n)) ⊎ (r .kind ≡ 3))
+use Rattle.flow.specs.declared.Went.{Went}
+use Rattle.flow.specs.Flow.{stops}
 
 -- So many bytes stand at the front of a buffer, and they are this text.
 abbrev pub Put : ℕ → List ℕ → List ℕ → Type 0

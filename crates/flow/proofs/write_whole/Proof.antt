@@ -1,12 +1,12 @@
--- `programs::flow::write_whole` meets its contract: where it has not failed, all bytes are taken. Assumes nothing.
+-- `flow::write_whole` meets its contract: where it has not failed, all bytes are taken. Assumes nothing.
 use borrow.Author.Needs.{needs}
 use Prim.Native.Nat.{_≤_}
 use native.Mathlib.Omega.{arith}
 use mathlib.Core.Path.{refl}
 use mathlib.Core.Logic.{inl, inr}
 use lib.ListN.{length}
-use Rattle.programs.proofs.flow.write_whole.Statement.{statement}
-use Rattle.programs.proofs.flow.write_whole.Tie as tie
+use Rattle.flow.proofs.write_whole.Statement.{statement}
+use Rattle.flow.proofs.write_whole.Tie as tie
 
 abbrev Inv-loop : tie.InvT-loop
 Inv-loop w out turns₀ at₀ turns at = at ≤ length out
