@@ -6,8 +6,8 @@ ghost use lib.ListN.{length};
 ghost use Rattle.flow.specs.Flow as flow;
 
 // How the work stands (kind): it goes on (0), a read gave nothing (1), a read failed (2), a write failed (3); how many bytes the last read brought;
-// and how many of the last write's were taken. All three are private: only this crate gives them. So no program can say that its input has ended
-// where no read gave nothing, nor that a read brought less than it did.
+// and how many bytes were taken by all writes so far. All three are private: only this crate gives them. So no program can say that its input has
+// ended where no read gave nothing, that a read brought less than it did, or that a text was written which was not.
 pub struct Went {
     kind: u8,
     count: usize,
@@ -84,9 +84,10 @@ fn read_once(fd: i32, piece: &mut [u8]) -> Call
     moved_none(2)
 }
 
-// One read into piece. A call that a signal ended is made again; nothing says that signals end, so the loop counts down from a number that no run uses up.
-pub fn read_piece(fd: i32, piece: &mut [u8]) -> Went
-    ensures { λ r. ⌜ flow.Brought (now (piece .exit)) (r .count) (r .kind) × (r .kind ≤ 2) × (r .sent ≡ 0) ⌝ }
+// One read into piece. A call that a signal ended is made again; nothing says that signals end, so the loop counts down from a number that no run
+// uses up.
+pub fn read_piece(w: Went, fd: i32, piece: &mut [u8]) -> Went
+    ensures { λ r. ⌜ flow.Came w r (now (piece .exit)) ⌝ }
 {
     let mut turns = u64::MAX;
     let first = read_once(fd, piece);
@@ -103,13 +104,13 @@ pub fn read_piece(fd: i32, piece: &mut [u8]) -> Went
         return Went {
             kind: 2,
             count: 0,
-            sent: 0,
+            sent: w.sent,
         };
     }
     Went {
         kind,
         count,
-        sent: 0,
+        sent: w.sent,
     }
 }
 
@@ -129,7 +130,18 @@ fn write_once(out: &[u8]) -> Call
     moved_none(3)
 }
 
-// All of out, in as many writes as it takes: it is all taken, or the write has failed. What the last read brought is kept.
+fn not_written(w: Went) -> Went
+    ensures { λ r. ⌜ (r .count ≡ w .count) × (r .kind ≡ 3) ⌝ }
+{
+    Went {
+        kind: 3,
+        count: w.count,
+        sent: w.sent,
+    }
+}
+
+// All of out, in as many writes as it takes: it is all taken, or the write has failed. What the last read brought is kept. Where no number holds the
+// total that is a failure, too; no run gets there.
 pub fn write_whole(w: Went, out: &[u8]) -> Went
     ensures { λ r. ⌜ flow.Wrote (length (now (out .entry))) w r ⌝ }
 {
@@ -138,25 +150,20 @@ pub fn write_whole(w: Went, out: &[u8]) -> Went
     while turns > 0 && at < out.len() {
         let put = write_once(&out[at..]);
         if put.kind == 3 {
-            return Went {
-                kind: 3,
-                count: w.count,
-                sent: at,
-            };
+            return not_written(w);
         }
         at += put.count;
         turns -= 1;
     }
     if at < out.len() {
-        return Went {
-            kind: 3,
-            count: w.count,
-            sent: at,
-        };
+        return not_written(w);
+    }
+    if usize::MAX - w.sent < at {
+        return not_written(w);
     }
     Went {
         kind: w.kind,
         count: w.count,
-        sent: at,
+        sent: w.sent + at,
     }
 }

@@ -9,10 +9,10 @@ use Rattle.flow.proofs.read_piece.Statement.{statement}
 use Rattle.flow.proofs.read_piece.Tie as tie
 
 abbrev Inv-loop : tie.InvT-loop
-Inv-loop fd piece₀ turns₀ count₀ kind₀ t8 piece turns count kind = Brought piece count kind × (length piece ≡ length piece₀)
+Inv-loop w fd piece₀ turns₀ count₀ kind₀ t8 piece turns count kind = Brought piece count kind × (length piece ≡ length piece₀)
 
 abbrev μ-loop : tie.MeasureT-loop
-μ-loop fd piece₀ turns₀ count₀ kind₀ t8 piece turns count kind = turns
+μ-loop w fd piece₀ turns₀ count₀ kind₀ t8 piece turns count kind = turns
 
 read-once-requires : tie.Need-read-once-requires Inv-loop μ-loop
 read-once-requires c κs = search needs
