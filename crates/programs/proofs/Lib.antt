@@ -1,2 +1,4 @@
+pub mod Draws
+pub mod Judgement
 pub mod Rooms
 pub mod Turns

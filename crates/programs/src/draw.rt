@@ -1,20 +1,22 @@
 // The program draw: reads its first line and setup lines, then draws commands, and prints a line for each.
 ghost use Prim.Native.Nat.{_≤_};
 ghost use mathlib.Core.Path.{_≡_};
+ghost use mathlib.Core.List.{[], _++_};
 ghost use lib.ListN.{length};
+ghost use Rattle.text.specs.Printed.{draw-header};
 ghost use Rattle.session.specs.Walk.{In-front};
 ghost use Rattle.session.specs.Draw as draws;
 ghost use Rattle.programs.specs.Loops as loops;
-use crate::flow::Went;
-use crate::flow::brought;
-use crate::flow::goes_on;
-use crate::flow::going;
-use crate::flow::has_failed;
-use crate::flow::read_piece;
-use crate::flow::status;
-use crate::flow::write_whole;
 use crate::hint::hint_zeros;
 use crate::hint::hinted;
+use flow::Went;
+use flow::brought;
+use flow::goes_on;
+use flow::going;
+use flow::has_failed;
+use flow::read_piece;
+use flow::status;
+use flow::write_whole;
 use session::draw::Draw;
 use session::draw::Drew;
 use session::draw::Read;
@@ -32,12 +34,6 @@ struct Turn {
     told: bool,
 }
 
-// The draw behind some draws, and how the work stands.
-struct Lots {
-    draw: Draw,
-    went: Went,
-}
-
 // Whether the draw still reads: it is at its first line or its setup lines. A first line of over 128 bytes is refused whatever follows, so nothing
 // more is read of it.
 fn reads(r: Reader) -> bool
@@ -48,7 +44,14 @@ fn reads(r: Reader) -> bool
     (d.stage < 2) & !((d.stage == 0) & (129 <= held.count))
 }
 
-// Where out is the one that `run` lends, there is room for all that a piece prints; for the end of the input; and for a lot of draws.
+// Where out is the one that `work` lends, there is room for the header; for all that a piece prints; for the end of the input; and for a lot of draws.
+fn put_header(out: &mut [u8]) -> usize
+    requires { ⌜ loops.draw-lent ≡ length (now out) ⌝ }
+    ensures { λ x. ⌜ loops.Put x (now (out .exit)) draw-header × In-front x (now (out .exit)) ⌝ }
+{
+    header(out)
+}
+
 fn put_lines(r: Reader, piece: &[u8], out: &mut [u8]) -> Read
     requires { ⌜ (length (now piece) ≤ loops.draw-piece) × (loops.draw-lent ≡ length (now out)) ⌝ }
     ensures { λ x. ⌜ (x .reader ≡ draws.piece-behind r (now (piece .entry))) × loops.Put (x .at) (now (out .exit)) (draws.piece-text r (now (piece .entry))) × In-front (x .at) (now (out .exit)) ⌝ }
@@ -71,11 +74,11 @@ fn put_draws(d: Draw, out: &mut [u8]) -> Drew
 }
 
 // One read, what is printed for it, one write.
-fn one_piece(fd: i32, r: Reader, told: bool, piece: &mut [u8], out: &mut [u8]) -> Turn
+fn one_piece(fd: i32, r: Reader, was: Went, told: bool, piece: &mut [u8], out: &mut [u8]) -> Turn
     requires { ⌜ (length (now piece) ≤ loops.draw-piece) × (loops.draw-lent ≡ length (now out)) ⌝ }
-    ensures { λ x. ⌜ loops.Turned draws.piece-behind r (x .reader) (x .went) (now (piece .exit)) ⌝ }
+    ensures { λ x. ⌜ loops.Turned draws.piece-behind draws.piece-text r (x .reader) was (x .went) (now (piece .exit)) (now (out .exit)) ⌝ }
 {
-    let came = read_piece(fd, piece);
+    let came = read_piece(was, fd, piece);
     if !goes_on(came) {
         return Turn {
             reader: r,
@@ -87,22 +90,26 @@ fn one_piece(fd: i32, r: Reader, told: bool, piece: &mut [u8], out: &mut [u8]) -
     let told = hinted(told, &piece[..n]);
     let f = put_lines(r, &piece[..n], out);
     let at = f.at;
-    let went = write_whole(came, &out[..at]);
+    let wrote = write_whole(came, &out[..at]);
     let reader = f.reader;
-    Turn { reader, went, told }
+    Turn {
+        reader,
+        went: wrote,
+        told,
+    }
 }
 
 // Nothing says that the input ends, so the turns are counted.
 fn all_pieces(fd: i32, headed: Went, piece: &mut [u8], out: &mut [u8]) -> Turn
     requires { ⌜ (length (now piece) ≤ loops.draw-piece) × (loops.draw-lent ≡ length (now out)) ⌝ }
-    ensures { λ x. ⌜ loops.Looped draws.piece-behind loops.draw-wants draws.at-first (x .reader) (x .went) ⌝ }
+    ensures { λ x. ⌜ loops.Looped draws.piece-behind draws.piece-text loops.draw-wants draws.at-first (x .reader) headed (x .went) ⌝ }
 {
     let mut turns = 0u64;
     let mut reader = begin();
     let mut went = headed;
     let mut told = false;
     while turns < u64::MAX && goes_on(went) && reads(reader) {
-        let t = one_piece(fd, reader, told, piece, out);
+        let t = one_piece(fd, reader, went, told, piece, out);
         reader = t.reader;
         went = t.went;
         told = t.told;
@@ -111,54 +118,58 @@ fn all_pieces(fd: i32, headed: Went, piece: &mut [u8], out: &mut [u8]) -> Turn
     Turn { reader, went, told }
 }
 
-// The draws that are left, a lot to a write.
-fn all_draws(d: Draw, ended: Went, out: &mut [u8]) -> Lots
+// The draws that are left, a lot to a write. Where a read or a write has failed there are none.
+fn all_draws(d: Draw, ended: Went, out: &mut [u8]) -> Went
     requires { ⌜ loops.draw-lent ≡ length (now out) ⌝ }
-    ensures { λ x. ⌜ loops.Drawn d (x .draw) (x .went) ⌝ }
+    ensures { λ x. ⌜ loops.Concluded (draws.some-text (d .left) d) ended x ⌝ }
 {
-    let mut turns = 0u64;
     let mut draw = d;
     let mut went = ended;
-    while turns < u64::MAX && goes_on(went) && 0 < draw.left {
+    while !has_failed(went) && draw.stage == 2 && 0 < draw.left {
         let f = put_draws(draw, out);
         let at = f.at;
         went = write_whole(went, &out[..at]);
         draw = f.draw;
-        turns += 1;
     }
-    Lots { draw, went }
+    went
 }
 
-// The end of the input, and the draws. Where a read or a write has failed there are none, and the status says so.
-fn conclude(r: Reader, read: Went, out: &mut [u8]) -> u8
+// The end of the input, and the draws. Where a read or a write has failed there are none.
+fn conclude(r: Reader, read: Went, out: &mut [u8]) -> Went
     requires { ⌜ loops.draw-lent ≡ length (now out) ⌝ }
-    ensures { λ x. ⌜ loops.Concluded (read .kind) x ⌝ }
+    ensures { λ x. ⌜ loops.Concluded (draws.printed r []) read x ⌝ }
 {
     if has_failed(read) {
-        return status(read);
+        return read;
     }
     let f = put_end(r, out);
     let at = f.at;
-    let went = write_whole(going(), &out[..at]);
+    let ended = write_whole(read, &out[..at]);
     let d = f.draw;
     if d.stage == 3 {
         hint_zeros();
     }
-    let t = all_draws(d, went, out);
-    let drawn = t.went;
-    status(drawn)
+    all_draws(d, ended, out)
+}
+
+// The header, the pieces, the end and the draws.
+fn work(fd: i32) -> Went
+    ensures { λ x. ⌜ loops.Whole draws.piece-behind loops.draw-wants draws.at-first (λ ps. draw-header ++ draws.printed draws.at-first ps) x ⌝ }
+{
+    let mut piece = [0u8; 384];
+    let mut out = [0u8; 73920];
+    let head = put_header(&mut out);
+    let begun = going();
+    let headed = write_whole(begun, &out[..head]);
+    let t = all_pieces(fd, headed, &mut piece, &mut out);
+    let r = t.reader;
+    let read = t.went;
+    conclude(r, read, &mut out)
 }
 
 // It answers its status. What it reads and writes no contract can say; what it writes of the bytes read is session's.
 pub fn run(fd: i32) -> u8
     ensures { λ r. ⌜ loops.Done-or-failed r ⌝ }
 {
-    let mut piece = [0u8; 384];
-    let mut out = [0u8; 73920];
-    let head = header(&mut out);
-    let headed = write_whole(going(), &out[..head]);
-    let t = all_pieces(fd, headed, &mut piece, &mut out);
-    let r = t.reader;
-    let read = t.went;
-    conclude(r, read, &mut out)
+    status(work(fd))
 }

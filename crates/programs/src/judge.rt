@@ -1,18 +1,20 @@
 // The program judge: reads a tape, and prints its seed and the verdict on it.
 ghost use mathlib.Core.Path.{_≡_};
+ghost use mathlib.Core.List.{[]};
 ghost use lib.ListN.{length};
+ghost use Rattle.flow.specs.Flow.{nothing-yet};
 ghost use Rattle.judging.specs.Pieces.{at-first, fed};
 ghost use Rattle.report.specs.Report.{report-room, report-text};
 ghost use Rattle.session.specs.Walk.{In-front};
 ghost use Rattle.programs.specs.Loops as loops;
-use crate::flow::Went;
-use crate::flow::brought;
-use crate::flow::goes_on;
-use crate::flow::going;
-use crate::flow::has_failed;
-use crate::flow::read_piece;
-use crate::flow::status;
-use crate::flow::write_whole;
+use flow::Went;
+use flow::brought;
+use flow::goes_on;
+use flow::going;
+use flow::has_failed;
+use flow::read_piece;
+use flow::status;
+use flow::write_whole;
 use judging::Judge;
 use judging::Judgement;
 use report::put_report;
@@ -23,11 +25,17 @@ struct Turn {
     went: Went,
 }
 
+// The judgement of all that was read, and how the work stands behind its report.
+struct Done {
+    judgement: Judgement,
+    went: Went,
+}
+
 // One read, and its records judged.
-fn one_piece(fd: i32, j: Judge, piece: &mut [u8]) -> Turn
-    ensures { λ r. ⌜ loops.Turned fed j (r .judge) (r .went) (now (piece .exit)) ⌝ }
+fn one_piece(fd: i32, j: Judge, was: Went, piece: &mut [u8]) -> Turn
+    ensures { λ r. ⌜ loops.Turned fed loops.silent j (r .judge) was (r .went) (now (piece .exit)) [] ⌝ }
 {
-    let went = read_piece(fd, piece);
+    let went = read_piece(was, fd, piece);
     if !goes_on(went) {
         return Turn { judge: j, went };
     }
@@ -38,13 +46,13 @@ fn one_piece(fd: i32, j: Judge, piece: &mut [u8]) -> Turn
 
 // Behind a verdict nothing more is read. Nothing says that the input ends, so the turns are counted.
 fn all_pieces(fd: i32, piece: &mut [u8]) -> Turn
-    ensures { λ r. ⌜ loops.Looped fed loops.judge-wants at-first (r .judge) (r .went) ⌝ }
+    ensures { λ r. ⌜ loops.Looped fed loops.silent loops.judge-wants at-first (r .judge) nothing-yet (r .went) ⌝ }
 {
     let mut turns = 0u64;
     let mut judge = Judge::fresh();
     let mut went = going();
     while turns < u64::MAX && goes_on(went) && judge.goes_on() {
-        let t = one_piece(fd, judge, piece);
+        let t = one_piece(fd, judge, went, piece);
         judge = t.judge;
         went = t.went;
         turns += 1;
@@ -60,31 +68,42 @@ fn put_judgement(j: Judgement, out: &mut [u8]) -> usize
     put_report(out, j)
 }
 
-// The report, and the status: the verdict's, or 3 where it could not be written. Where a read failed the tape is not known, and nothing is said of it.
-fn conclude(judge: Judge, read: Went) -> u8
-    ensures { λ r. ⌜ loops.Judged (judge) (read .kind) r ⌝ }
+// The report. Where a read failed the tape is not known, and nothing is said of it.
+fn conclude(j: Judgement, read: Went) -> Went
+    ensures { λ r. ⌜ loops.Concluded (report-text j) read r ⌝ }
 {
     if has_failed(read) {
-        return status(read);
+        return read;
     }
-    let j = judge.end();
     let mut out = [0u8; 512];
     let n = put_judgement(j, &mut out);
-    let went = write_whole(going(), &out[..n]);
-    if has_failed(went) {
-        return status(went);
-    }
-    let v = j.verdict;
-    judging::status(v)
+    write_whole(read, &out[..n])
 }
 
-// It answers its status. What it reads and writes no contract can say; what it writes of the bytes read is judging's and report's.
-pub fn run(fd: i32) -> u8
-    ensures { λ r. ⌜ loops.Judged-or-failed r ⌝ }
+// The pieces, the report.
+fn work(fd: i32) -> Done
+    ensures { λ r. ⌜ loops.Judged (r .judgement) (r .went) ⌝ }
 {
     let mut piece = [0u8; 65536];
     let t = all_pieces(fd, &mut piece);
     let judge = t.judge;
     let read = t.went;
-    conclude(judge, read)
+    let judgement = judge.end();
+    let went = conclude(judgement, read);
+    Done { judgement, went }
+}
+
+// It answers its status: the verdict's, or 3 where a read or a write failed. What it reads and writes no contract can say; what it writes of the
+// bytes read is judging's and report's.
+pub fn run(fd: i32) -> u8
+    ensures { λ r. ⌜ loops.Judged-or-failed r ⌝ }
+{
+    let w = work(fd);
+    let went = w.went;
+    if has_failed(went) {
+        return status(went);
+    }
+    let j = w.judgement;
+    let v = j.verdict;
+    judging::status(v)
 }

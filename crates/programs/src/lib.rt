@@ -4,7 +4,6 @@
 ghost use Rattle.programs.specs.Loops as loops;
 
 pub mod draw;
-mod flow;
 mod hint;
 pub mod judge;
 pub mod walk;

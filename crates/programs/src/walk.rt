@@ -2,18 +2,20 @@
 ghost use Prim.Native.Nat.{_≤_};
 ghost use mathlib.Core.Path.{_≡_};
 ghost use mathlib.Core.Bool.{true};
+ghost use mathlib.Core.List.{_++_};
 ghost use lib.ListN.{length};
-ghost use Rattle.session.specs.Walk.{In-front, at-first, text-for, walk-after, last-text};
+ghost use Rattle.text.specs.Printed.{walk-header};
+ghost use Rattle.session.specs.Walk.{In-front, at-first, text-for, walk-after, last-text, printed};
 ghost use Rattle.programs.specs.Loops as loops;
-use crate::flow::Went;
-use crate::flow::brought;
-use crate::flow::goes_on;
-use crate::flow::going;
-use crate::flow::has_failed;
-use crate::flow::read_piece;
-use crate::flow::status;
-use crate::flow::write_whole;
 use crate::hint::hinted;
+use flow::Went;
+use flow::brought;
+use flow::goes_on;
+use flow::going;
+use flow::has_failed;
+use flow::read_piece;
+use flow::status;
+use flow::write_whole;
 use session::walk::Fed;
 use session::walk::Walk;
 use session::walk::begin;
@@ -28,7 +30,14 @@ struct Turn {
     told: bool,
 }
 
-// Where out is the one that `run` lends, there is room for all that a piece prints; and for a last line.
+// Where out is the one that `work` lends, there is room for the header; for all that a piece prints; and for a last line.
+fn put_header(out: &mut [u8]) -> usize
+    requires { ⌜ loops.walk-lent ≡ length (now out) ⌝ }
+    ensures { λ r. ⌜ loops.Put r (now (out .exit)) walk-header × In-front r (now (out .exit)) ⌝ }
+{
+    header(out)
+}
+
 fn put_lines(w: Walk, piece: &[u8], out: &mut [u8]) -> Fed
     requires { ⌜ (length (now piece) ≤ loops.walk-piece) × (loops.walk-lent ≡ length (now out)) ⌝ }
     ensures { λ r. ⌜ (r .walk ≡ walk-after w (now (piece .entry))) × loops.Put (r .at) (now (out .exit)) (text-for w (now (piece .entry))) × In-front (r .at) (now (out .exit)) ⌝ }
@@ -44,11 +53,11 @@ fn put_last(w: Walk, out: &mut [u8]) -> usize
 }
 
 // One read, what is printed for it, one write.
-fn one_piece(fd: i32, w: Walk, told: bool, piece: &mut [u8], out: &mut [u8]) -> Turn
+fn one_piece(fd: i32, w: Walk, was: Went, told: bool, piece: &mut [u8], out: &mut [u8]) -> Turn
     requires { ⌜ (length (now piece) ≤ loops.walk-piece) × (loops.walk-lent ≡ length (now out)) ⌝ }
-    ensures { λ r. ⌜ loops.Turned walk-after w (r .walk) (r .went) (now (piece .exit)) ⌝ }
+    ensures { λ r. ⌜ loops.Turned walk-after text-for w (r .walk) was (r .went) (now (piece .exit)) (now (out .exit)) ⌝ }
 {
-    let came = read_piece(fd, piece);
+    let came = read_piece(was, fd, piece);
     if !goes_on(came) {
         return Turn {
             walk: w,
@@ -60,22 +69,26 @@ fn one_piece(fd: i32, w: Walk, told: bool, piece: &mut [u8], out: &mut [u8]) -> 
     let told = hinted(told, &piece[..n]);
     let f = put_lines(w, &piece[..n], out);
     let at = f.at;
-    let went = write_whole(came, &out[..at]);
+    let wrote = write_whole(came, &out[..at]);
     let walk = f.walk;
-    Turn { walk, went, told }
+    Turn {
+        walk,
+        went: wrote,
+        told,
+    }
 }
 
 // Nothing says that the input ends, so the turns are counted.
 fn all_pieces(fd: i32, headed: Went, piece: &mut [u8], out: &mut [u8]) -> Turn
     requires { ⌜ (length (now piece) ≤ loops.walk-piece) × (loops.walk-lent ≡ length (now out)) ⌝ }
-    ensures { λ r. ⌜ loops.Looped walk-after (λ w. true) at-first (r .walk) (r .went) ⌝ }
+    ensures { λ r. ⌜ loops.Looped walk-after text-for (λ w. true) at-first (r .walk) headed (r .went) ⌝ }
 {
     let mut turns = 0u64;
     let mut walk = begin();
     let mut went = headed;
     let mut told = false;
     while turns < u64::MAX && goes_on(went) {
-        let t = one_piece(fd, walk, told, piece, out);
+        let t = one_piece(fd, walk, went, told, piece, out);
         walk = t.walk;
         went = t.went;
         told = t.told;
@@ -84,29 +97,36 @@ fn all_pieces(fd: i32, headed: Went, piece: &mut [u8], out: &mut [u8]) -> Turn
     Turn { walk, went, told }
 }
 
-// The end of the input: a last line. Where a read or a write has failed there is none, and the status says so.
-fn conclude(w: Walk, read: Went, out: &mut [u8]) -> u8
+// The end of the input: a last line. Where a read or a write has failed there is none.
+fn conclude(w: Walk, read: Went, out: &mut [u8]) -> Went
     requires { ⌜ loops.walk-lent ≡ length (now out) ⌝ }
-    ensures { λ r. ⌜ loops.Concluded (read .kind) r ⌝ }
+    ensures { λ r. ⌜ loops.Concluded (last-text w) read r ⌝ }
 {
     if has_failed(read) {
-        return status(read);
+        return read;
     }
     let last = put_last(w, out);
-    let went = write_whole(going(), &out[..last]);
-    status(went)
+    write_whole(read, &out[..last])
+}
+
+// The header, the pieces, the end.
+fn work(fd: i32) -> Went
+    ensures { λ r. ⌜ loops.Whole walk-after (λ w. true) at-first (λ ps. walk-header ++ printed at-first ps) r ⌝ }
+{
+    let mut piece = [0u8; 640];
+    let mut out = [0u8; 82048];
+    let head = put_header(&mut out);
+    let begun = going();
+    let headed = write_whole(begun, &out[..head]);
+    let t = all_pieces(fd, headed, &mut piece, &mut out);
+    let w = t.walk;
+    let read = t.went;
+    conclude(w, read, &mut out)
 }
 
 // It answers its status. What it reads and writes no contract can say; what it writes of the bytes read is session's.
 pub fn run(fd: i32) -> u8
     ensures { λ r. ⌜ loops.Done-or-failed r ⌝ }
 {
-    let mut piece = [0u8; 640];
-    let mut out = [0u8; 82048];
-    let head = header(&mut out);
-    let headed = write_whole(going(), &out[..head]);
-    let t = all_pieces(fd, headed, &mut piece, &mut out);
-    let w = t.walk;
-    let read = t.went;
-    conclude(w, read, &mut out)
+    status(work(fd))
 }

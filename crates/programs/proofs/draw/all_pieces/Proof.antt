@@ -4,14 +4,14 @@ use Prim.Native.Nat.{_-_}
 use mathlib.Core.Path.{_≡_, refl}
 use mathlib.Core.Logic.{inl, inr}
 use lib.ListN.{length}
-use Rattle.session.specs.Draw.{at-first, piece-behind}
+use Rattle.session.specs.Draw.{at-first, piece-behind, piece-text}
 use Rattle.programs.specs.Loops.{all-turns, draw-wants}
 use Rattle.programs.proofs.Turns.{Running, at-start, gone-on, one-turn, stopped, wants-none, at-end}
 use Rattle.programs.proofs.draw.all_pieces.Statement.{statement}
 use Rattle.programs.proofs.draw.all_pieces.Tie as tie
 
 abbrev Inv-loop : tie.InvT-loop
-Inv-loop fd piece₀ out₀ turns₀ reader₀ went₀ told₀ piece out turns reader went told = (length piece ≡ length piece₀) × (length out ≡ length out₀) × Running piece-behind at-first reader (went .kind) turns
+Inv-loop fd piece₀ out₀ turns₀ reader₀ went₀ told₀ piece out turns reader went told = (length piece ≡ length piece₀) × (length out ≡ length out₀) × Running piece-behind piece-text at-first reader went₀ went turns
 
 abbrev μ-loop : tie.MeasureT-loop
 μ-loop fd piece₀ out₀ turns₀ reader₀ went₀ told₀ piece out turns reader went told = all-turns - turns
@@ -20,7 +20,7 @@ begin-requires : tie.Need-begin-requires Inv-loop μ-loop
 begin-requires c κs = search needs
 
 loop-holds : tie.Need-loop-holds Inv-loop μ-loop
-loop-holds c = (refl, refl, at-start piece-behind at-first (c .begin .result) (c .before .before .before .args .headed .kind) (c .begin .ensures))
+loop-holds c = (refl, refl, at-start piece-behind piece-text at-first (c .begin .result) _ _ (c .begin .ensures) refl)
 
 goes-on-requires : tie.Need-goes-on-requires Inv-loop μ-loop
 goes-on-requires c κs = search needs
@@ -45,7 +45,7 @@ loop-again c =
     let on = gone-on (lp .went .kind) (g .result) (g .ensures) (c .before .before .before .before .before .before .before .before .before .before .before .if1 .taken) in (
       search needs,
       search needs,
-      one-turn piece-behind at-first (lp .reader) (one .result .reader) (lp .went .kind) (one .result .went) _ (lp .turns) (lp .inv .2) on (one .ensures),
+      one-turn piece-behind piece-text at-first (lp .reader) (one .result .reader) _ (lp .went) (one .result .went) (lp .turns) (lp .inv .2) on _ _ (one .ensures),
     )
 
 same-length : tie.Need-same-length Inv-loop μ-loop
@@ -58,7 +58,7 @@ returns : tie.Need-returns Inv-loop μ-loop
 returns c =
     let lp = c .before .before .before .before .before .loop in
     let g = c .before .reads in
-    at-end piece-behind draw-wants at-first (lp .reader) (lp .went) (lp .turns) (lp .inv .2) (inr (inl (wants-none (draw-wants (lp .reader)) (g .result) (g .ensures) (c .if2 .left))))
+    at-end piece-behind piece-text draw-wants at-first (lp .reader) _ (lp .went) (lp .turns) (lp .inv .2) (inr (inl (wants-none (draw-wants (lp .reader)) (g .result) (g .ensures) (c .if2 .left))))
 
 same-length-3 : tie.Need-same-length-3 Inv-loop μ-loop
 same-length-3 c = search needs
@@ -70,7 +70,7 @@ returns-2 : tie.Need-returns-2 Inv-loop μ-loop
 returns-2 c =
     let lp = c .before .before .before .loop in
     let g = c .before .goes-on in
-    at-end piece-behind draw-wants at-first (lp .reader) (lp .went) (lp .turns) (lp .inv .2) (inl (stopped (lp .went .kind) (g .result) (g .ensures) (c .if1 .left)))
+    at-end piece-behind piece-text draw-wants at-first (lp .reader) _ (lp .went) (lp .turns) (lp .inv .2) (inl (stopped (lp .went .kind) (g .result) (g .ensures) (c .if1 .left)))
 
 same-length-5 : tie.Need-same-length-5 Inv-loop μ-loop
 same-length-5 c = search needs
@@ -81,7 +81,7 @@ same-length-6 c = search needs
 returns-3 : tie.Need-returns-3 Inv-loop μ-loop
 returns-3 c =
     let lp = c .before .loop in
-    at-end piece-behind draw-wants at-first (lp .reader) (lp .went) (lp .turns) (lp .inv .2) (inr (inr (c .loop-test .left)))
+    at-end piece-behind piece-text draw-wants at-first (lp .reader) _ (lp .went) (lp .turns) (lp .inv .2) (inr (inr (c .loop-test .left)))
 
 pub all-pieces-spec : {M : Type 1} → statement M
 all-pieces-spec =

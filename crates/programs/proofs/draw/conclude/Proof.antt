@@ -1,24 +1,22 @@
--- `programs::draw::conclude` meets its contract: behind a failure the status is 3. Assumes nothing.
+-- `programs::draw::conclude` meets its contract: behind a failure nothing more is written, else the end's text and the draws (proofs/Turns). Assumes nothing.
 use borrow.Author.Needs.{needs}
-use mathlib.Core.Path.{sym, _∙_}
-use Rattle.programs.proofs.Turns.{done-or-failed, failed-there, not-there}
+use mathlib.Core.Path.{subst}
+use mathlib.Core.List.{[]}
+use Rattle.session.specs.declared.draw.Draw.{Draw}
+use Rattle.session.specs.Draw.{end-text, some-text, printed}
+use Rattle.programs.specs.Loops.{Concluded}
+use Rattle.programs.proofs.Turns.{not-failed, nothing-more, took-text, then-more}
 use Rattle.programs.proofs.draw.conclude.Statement.{statement}
 use Rattle.programs.proofs.draw.conclude.Tie as tie
 
 has-failed-requires : tie.Need-has-failed-requires
 has-failed-requires c κs = search needs
 
-status-requires : tie.Need-status-requires
-status-requires c κs = search needs
-
 returns : tie.Need-returns
-returns c = failed-there (c .before .before .before .before .args .read .kind) (c .status .result) (c .status .ensures) (sym (c .before .before .has-failed .ensures) ∙ c .before .if1 .taken)
+returns c = nothing-more (printed (c .before .before .before .args .r) []) _ (c .before .has-failed .result) (c .before .has-failed .ensures) (c .if1 .taken)
 
 put-end-requires : tie.Need-put-end-requires
 put-end-requires c κs = search needs
-
-going-requires : tie.Need-going-requires
-going-requires c κs = search needs
 
 slice-reshare-prefix-write-whole : tie.Need-slice-reshare-prefix-write-whole
 slice-reshare-prefix-write-whole c = search needs
@@ -35,32 +33,32 @@ hint-zeros-requires c κs = search needs
 all-draws-requires : tie.Need-all-draws-requires
 all-draws-requires c κs = search needs
 
-status-requires-2 : tie.Need-status-requires-2
-status-requires-2 c κs = search needs
-
 same-length : tie.Need-same-length
 same-length c = search needs
 
 returns-2 : tie.Need-returns-2
+unfolding printed
 returns-2 c =
-    let f = c .before .before .before .before .before .before .before .before .before .before .before .before .before .before .before .before .before .has-failed in
-    not-there (c .before .before .before .before .before .before .before .before .before .before .before .before .before .before .before .before .before .before .before .args .read .kind) (c .status2 .result) (f .result) (f .ensures) (c .before .before .before .before .before .before .before .before .before .before .before .before .before .before .before .before .if1 .left)
-    (done-or-failed (c .before .before .before .before .all-draws .result .went .kind) (c .status2 .result) (c .status2 .ensures))
+    let read = c .before .before .before .before .before .before .before .before .before .before .before .before .before .before .before .before .args .read in
+    let f = c .before .before .before .before .before .before .before .before .before .before .before .before .before .before .has-failed in
+    let on = not-failed (read .kind) (f .result) (f .ensures) (c .before .before .before .before .before .before .before .before .before .before .before .before .before .if1 .left) in
+    let put = c .before .before .before .before .before .before .before .before .before .before .before .put-end in
+    let w = c .before .before .before .before .before .before .before .write-whole in
+    let took = took-text (end-text _) _ (put .result .at) (read .kind) read (w .result) (put .ensures .1) (w .ensures .1) in
+    let all = c .before .before .all-draws in
+    then-more (end-text _) _ read (w .result) (all .result) on took (subst (λ (d : Draw). Concluded (some-text (d .left) d) (w .result) (all .result)) (put .ensures .0) (all .ensures))
 
 pub conclude-spec : {M : Type 1} → statement M
 conclude-spec =
     tie.close
     (tie.spec
     has-failed-requires
-    status-requires
     returns
     put-end-requires
-    going-requires
     slice-reshare-prefix-write-whole
     slice-aggregate-write-whole
     write-whole-requires
     hint-zeros-requires
     all-draws-requires
-    status-requires-2
     same-length
     returns-2)

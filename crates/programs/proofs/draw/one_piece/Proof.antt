@@ -1,13 +1,12 @@
--- `programs::draw::one_piece` meets its contract: all that was read is fed, or nothing was read (proofs/Turns). Assumes nothing.
+-- `programs::draw::one_piece` meets its contract: all that was read is fed and what is printed for it is written, or nothing was read (proofs/Turns). Assumes
+-- nothing.
 use borrow.Author.Needs.{needs}
 use native.Mathlib.Omega.{arith}
 use mathlib.Core.Path.{sym}
 use lib.Seq.{length-take-le}
-use mathlib.Core.Path.{refl}
-use mathlib.Core.Logic.{inr}
 use borrow.Author.Tests.{not-true, not-false}
-use Rattle.session.specs.Draw.{piece-behind}
-use Rattle.programs.proofs.Turns.{stopped, turned}
+use Rattle.session.specs.Draw.{piece-behind, piece-text}
+use Rattle.programs.proofs.Turns.{gone-on, stopped, turned, unturned}
 use Rattle.programs.proofs.draw.one_piece.Statement.{statement}
 use Rattle.programs.proofs.draw.one_piece.Tie as tie
 
@@ -24,7 +23,7 @@ returns : tie.Need-returns
 returns c =
     let g = c .before .goes-on in
     let got = c .before .before .before .before .read-piece in
-    inr (refl, stopped (got .result .kind) (g .result) (g .ensures) (not-true (g .result) (c .if1 .taken)))
+    unturned piece-behind piece-text _ (c .before .before .before .before .before .before .before .before .args .was) (got .result) _ _ (got .ensures) (stopped (got .result .kind) (g .result) (g .ensures) (not-true (g .result) (c .if1 .taken)))
 
 brought-requires : tie.Need-brought-requires
 brought-requires c κs = search needs
@@ -49,7 +48,7 @@ put-lines-requires c κs =
     let n = c .before .before .before .before .brought in
     let got = c .before .before .before .before .before .before .before .before .before .read-piece in
     let pre = c .before .before .before .before .before .before .before .before .before .before .before .before .before .pre in
-    let o = length-take-le (n .result) (got .last .1 .0) (omega (arith, n .ensures, got .ensures .0 .0)) in
+    let o = length-take-le (n .result) (got .last .1 .1 .0) (omega (arith, n .ensures, got .ensures .0 .0)) in
     (omega (arith, o, n .ensures, got .ensures .0 .0, pre .0), pre .1)
 
 slice-reshare-prefix-write-whole : tie.Need-slice-reshare-prefix-write-whole
@@ -72,9 +71,9 @@ returns-2 c =
     let g = c .before .before .before .before .before .before .before .before .before .before .before .before .goes-on in
     let got = c .before .before .before .before .before .before .before .before .before .before .before .before .before .before .before .read-piece in
     let n = c .before .before .before .before .before .before .before .before .before .before .brought in
-    let put = c .before .write-whole in
-    turned piece-behind _ _ (got .result) (put .result) (n .result) _ (g .result) (got .ensures .0) (g .ensures) (not-false (g .result) (c .before .before .before .before .before .before .before .before .before .before .before .if1 .left)) (n .ensures) (put .ensures .0)
-    (c .before .before .before .before .before .put-lines .ensures .0)
+    let on = gone-on (got .result .kind) (g .result) (g .ensures) (not-false (g .result) (c .before .before .before .before .before .before .before .before .before .before .before .if1 .left)) in
+    let f = c .before .before .before .before .before .put-lines in
+    turned piece-behind piece-text _ _ (c .before .before .before .before .before .before .before .before .before .before .before .before .before .before .before .before .before .before .before .args .was) (got .result) _ (n .result) (f .result .at) _ _ (got .ensures) on (n .ensures) (f .ensures .0) (f .ensures .1) (c .before .write-whole .ensures)
 
 pub one-piece-spec : {M : Type 1} → statement M
 one-piece-spec =

@@ -1,13 +1,14 @@
 -- `programs::judge::one_piece` meets its contract: all that was read is fed, or nothing was read (proofs/Turns). Assumes nothing.
 use borrow.Author.Needs.{needs}
 use native.Mathlib.Omega.{arith}
-use mathlib.Core.Path.{sym}
+use mathlib.Core.Path.{refl, sym}
+use mathlib.Core.List.{[]}
+use mathlib.Core.Logic.{inl}
 use lib.Seq.{length-take-le}
-use mathlib.Core.Path.{refl}
-use mathlib.Core.Logic.{inr}
 use borrow.Author.Tests.{not-true, not-false}
 use Rattle.judging.specs.Pieces.{fed}
-use Rattle.programs.proofs.Turns.{stopped, turned}
+use Rattle.programs.specs.Loops.{silent}
+use Rattle.programs.proofs.Turns.{gone-on, stopped, turned, unturned}
 use Rattle.programs.proofs.judge.one_piece.Statement.{statement}
 use Rattle.programs.proofs.judge.one_piece.Tie as tie
 
@@ -24,7 +25,7 @@ returns : tie.Need-returns
 returns c =
     let g = c .before .goes-on in
     let got = c .before .before .before .before .read-piece in
-    inr (refl, stopped (got .result .kind) (g .result) (g .ensures) (not-true (g .result) (c .if1 .taken)))
+    unturned fed silent _ (c .before .before .before .before .before .before .before .args .was) (got .result) _ [] (got .ensures) (stopped (got .result .kind) (g .result) (g .ensures) (not-true (g .result) (c .if1 .taken)))
 
 brought-requires : tie.Need-brought-requires
 brought-requires c κs = search needs
@@ -46,7 +47,8 @@ returns-2 c =
     let g = c .before .before .before .before .goes-on in
     let got = c .before .before .before .before .before .before .before .read-piece in
     let n = c .before .before .brought in
-    turned fed _ _ (got .result) (got .result) (n .result) _ (g .result) (got .ensures .0) (g .ensures) (not-false (g .result) (c .before .before .before .if1 .left)) (n .ensures) refl (c .feed .ensures)
+    let on = gone-on (got .result .kind) (g .result) (g .ensures) (not-false (g .result) (c .before .before .before .if1 .left)) in
+    turned fed silent _ _ (c .before .before .before .before .before .before .before .before .before .before .args .was) (got .result) (got .result) (n .result) 0 _ [] (got .ensures) on (n .ensures) (c .feed .ensures) (refl, refl) (refl, inl (refl, omega arith))
 
 pub one-piece-spec : {M : Type 1} → statement M
 one-piece-spec =

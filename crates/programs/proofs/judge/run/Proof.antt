@@ -1,29 +1,43 @@
--- `programs::judge::run` meets its contract. Assumes nothing.
+-- `programs::judge::run` meets its contract: 3 where the work failed, else the status of the verdict. Assumes nothing.
 use borrow.Author.Needs.{needs}
 use mathlib.Core.Path.{ap, sym, _∙_}
-use mathlib.Core.Logic.{inl, inr, ⊎-elim}
+use mathlib.Core.Bool.{Bool, cond}
+use mathlib.Core.Logic.{inl, inr}
 use Rattle.judging.specs.declared.Judgement.{Judgement}
 use Rattle.judging.specs.Verdict.{status-of as status-on}
-use Rattle.judging.specs.Pieces.{at-first, ended}
-use Rattle.programs.proofs.Turns.{judged-behind}
 use Rattle.programs.proofs.judge.run.Statement.{statement}
 use Rattle.programs.proofs.judge.run.Tie as tie
+use Rattle.judging.proofs.status.Reads as status-reads′
 
-slice-aggregate-all-pieces : tie.Need-slice-aggregate-all-pieces
-slice-aggregate-all-pieces c = search needs
+work-requires : tie.Need-work-requires
+work-requires c κs = search needs
 
-all-pieces-requires : tie.Need-all-pieces-requires
-all-pieces-requires c κs = search needs
+has-failed-requires : tie.Need-has-failed-requires
+has-failed-requires c κs = search needs
 
-conclude-requires : tie.Need-conclude-requires
-conclude-requires c κs = search needs
+status-requires : tie.Need-status-requires
+status-requires c κs = search needs
 
 returns : tie.Need-returns
 returns c =
-    let t = c .before .before .before .before .all-pieces in
-    let e = ap ended (t .ensures .2) ∙ sym (judged-behind (t .ensures .0) at-first) in
-    ⊎-elim (λ s. inl (t .ensures .0, s ∙ ap (λ (x : Judgement). status-on (x .verdict)) e)) inr (c .conclude .ensures .1)
+    let f = c .before .before .has-failed in
+    inr (c .status .ensures ∙ ap (λ (b : Bool). cond b 3 0) (sym (f .ensures) ∙ c .before .if1 .taken))
+
+status-requires-2 : tie.Need-status-requires-2
+status-requires-2 c κs = search needs
+
+returns-2 : tie.Need-returns-2
+returns-2 c =
+    let w = c .before .before .before .before .before .work in
+    inl (w .ensures .0, c .status2 .ensures ∙ ap (λ (x : Judgement). status-on (x .verdict)) (w .ensures .2))
 
 pub run-spec : {M : Type 1} → statement M
 run-spec =
-    tie.close (tie.spec slice-aggregate-all-pieces all-pieces-requires conclude-requires returns)
+    tie.close
+    (tie.spec
+    work-requires
+    has-failed-requires
+    status-requires
+    returns
+    status-requires-2
+    returns-2)

@@ -5,14 +5,14 @@ use mathlib.Core.Path.{_≡_, refl}
 use mathlib.Core.Logic.{inl, inr}
 use lib.ListN.{length}
 use mathlib.Core.Bool.{true}
-use Rattle.session.specs.Walk.{at-first, walk-after}
+use Rattle.session.specs.Walk.{at-first, walk-after, text-for}
 use Rattle.programs.specs.Loops.{all-turns}
 use Rattle.programs.proofs.Turns.{Running, at-start, gone-on, one-turn, stopped, at-end}
 use Rattle.programs.proofs.walk.all_pieces.Statement.{statement}
 use Rattle.programs.proofs.walk.all_pieces.Tie as tie
 
 abbrev Inv-loop : tie.InvT-loop
-Inv-loop fd piece₀ out₀ turns₀ walk₀ went₀ told₀ piece out turns walk went told = (length piece ≡ length piece₀) × (length out ≡ length out₀) × Running walk-after at-first walk (went .kind) turns
+Inv-loop fd piece₀ out₀ turns₀ walk₀ went₀ told₀ piece out turns walk went told = (length piece ≡ length piece₀) × (length out ≡ length out₀) × Running walk-after text-for at-first walk went₀ went turns
 
 abbrev μ-loop : tie.MeasureT-loop
 μ-loop fd piece₀ out₀ turns₀ walk₀ went₀ told₀ piece out turns walk went told = all-turns - turns
@@ -21,7 +21,7 @@ begin-requires : tie.Need-begin-requires Inv-loop μ-loop
 begin-requires c κs = search needs
 
 loop-holds : tie.Need-loop-holds Inv-loop μ-loop
-loop-holds c = (refl, refl, at-start walk-after at-first (c .begin .result) (c .before .before .before .args .headed .kind) (c .begin .ensures))
+loop-holds c = (refl, refl, at-start walk-after text-for at-first (c .begin .result) _ _ (c .begin .ensures) refl)
 
 goes-on-requires : tie.Need-goes-on-requires Inv-loop μ-loop
 goes-on-requires c κs = search needs
@@ -43,7 +43,7 @@ loop-again c =
     let on = gone-on (lp .went .kind) (g .result) (g .ensures) (c .before .before .before .before .before .before .before .before .before .if1 .taken) in (
       search needs,
       search needs,
-      one-turn walk-after at-first (lp .walk) (one .result .walk) (lp .went .kind) (one .result .went) _ (lp .turns) (lp .inv .2) on (one .ensures),
+      one-turn walk-after text-for at-first (lp .walk) (one .result .walk) _ (lp .went) (one .result .went) (lp .turns) (lp .inv .2) on _ _ (one .ensures),
     )
 
 same-length : tie.Need-same-length Inv-loop μ-loop
@@ -56,7 +56,7 @@ returns : tie.Need-returns Inv-loop μ-loop
 returns c =
     let lp = c .before .before .before .loop in
     let g = c .before .goes-on in
-    at-end walk-after (λ w. true) at-first (lp .walk) (lp .went) (lp .turns) (lp .inv .2) (inl (stopped (lp .went .kind) (g .result) (g .ensures) (c .if1 .left)))
+    at-end walk-after text-for (λ w. true) at-first (lp .walk) _ (lp .went) (lp .turns) (lp .inv .2) (inl (stopped (lp .went .kind) (g .result) (g .ensures) (c .if1 .left)))
 
 same-length-3 : tie.Need-same-length-3 Inv-loop μ-loop
 same-length-3 c = search needs
@@ -67,7 +67,7 @@ same-length-4 c = search needs
 returns-2 : tie.Need-returns-2 Inv-loop μ-loop
 returns-2 c =
     let lp = c .before .loop in
-    at-end walk-after (λ w. true) at-first (lp .walk) (lp .went) (lp .turns) (lp .inv .2) (inr (inr (c .loop-test .left)))
+    at-end walk-after text-for (λ w. true) at-first (lp .walk) _ (lp .went) (lp .turns) (lp .inv .2) (inr (inr (c .loop-test .left)))
 
 pub all-pieces-spec : {M : Type 1} → statement M
 all-pieces-spec =

@@ -1,11 +1,11 @@
--- `programs::flow::read_once` meets its contract: a count above 0 is a piece, and each other end has read none. Assumes nothing.
+-- `flow::read_once` meets its contract: a count above 0 is a piece, and each other end has read none. Assumes nothing.
 use borrow.Author.Needs.{needs}
 use native.Mathlib.Omega.{arith}
 use mathlib.Core.Path.{refl}
 use mathlib.Core.Logic.{inl}
-use Rattle.programs.proofs.Turns.{brought-none}
-use Rattle.programs.proofs.flow.read_once.Statement.{statement}
-use Rattle.programs.proofs.flow.read_once.Tie as tie
+use Rattle.flow.proofs.Calls.{brought-none}
+use Rattle.flow.proofs.read_once.Statement.{statement}
+use Rattle.flow.proofs.read_once.Tie as tie
 
 read-requires : tie.Need-read-requires
 read-requires c κs = search needs

@@ -1,7 +1,7 @@
--- `programs::flow::status` meets its contract. Assumes nothing.
+-- `flow::status` meets its contract. Assumes nothing.
 use borrow.Author.Tests.{le-leb, lt-leb}
-use Rattle.programs.proofs.flow.status.Statement.{statement}
-use Rattle.programs.proofs.flow.status.Tie as tie
+use Rattle.flow.proofs.status.Statement.{statement}
+use Rattle.flow.proofs.status.Tie as tie
 
 returns : tie.Need-returns
 returns c = rw (le-leb 2 _ (c .if1 .taken))

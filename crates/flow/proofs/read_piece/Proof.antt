@@ -1,18 +1,18 @@
--- `programs::flow::read_piece` meets its contract: what the last call brought is kept, and an interrupted one is made again. Assumes nothing.
+-- `flow::read_piece` meets its contract: what the last call brought is kept, and an interrupted one is made again. Assumes nothing.
 use borrow.Author.Needs.{needs}
 use native.Mathlib.Omega.{arith}
 use mathlib.Core.Path.{_≡_, refl}
 use mathlib.Core.Logic.{inr}
 use lib.ListN.{length}
-use Rattle.programs.specs.Loops.{Brought}
-use Rattle.programs.proofs.flow.read_piece.Statement.{statement}
-use Rattle.programs.proofs.flow.read_piece.Tie as tie
+use Rattle.flow.specs.Flow.{Brought}
+use Rattle.flow.proofs.read_piece.Statement.{statement}
+use Rattle.flow.proofs.read_piece.Tie as tie
 
 abbrev Inv-loop : tie.InvT-loop
-Inv-loop fd piece₀ turns₀ count₀ kind₀ t8 piece turns count kind = Brought piece count kind × (length piece ≡ length piece₀)
+Inv-loop w fd piece₀ turns₀ count₀ kind₀ t8 piece turns count kind = Brought piece count kind × (length piece ≡ length piece₀)
 
 abbrev μ-loop : tie.MeasureT-loop
-μ-loop fd piece₀ turns₀ count₀ kind₀ t8 piece turns count kind = turns
+μ-loop w fd piece₀ turns₀ count₀ kind₀ t8 piece turns count kind = turns
 
 read-once-requires : tie.Need-read-once-requires Inv-loop μ-loop
 read-once-requires c κs = search needs
@@ -42,13 +42,13 @@ same-length : tie.Need-same-length Inv-loop μ-loop
 same-length c = search needs
 
 returns : tie.Need-returns Inv-loop μ-loop
-returns c = ((omega arith, refl, inr (refl, omega arith)), omega arith)
+returns c = ((omega arith, refl, inr (refl, omega arith)), omega arith, refl)
 
 same-length-2 : tie.Need-same-length-2 Inv-loop μ-loop
 same-length-2 c = search needs
 
 returns-2 : tie.Need-returns-2 Inv-loop μ-loop
-returns-2 c = (c .before .before .loop .inv .0, omega (arith, c .if2 .left))
+returns-2 c = (c .before .before .loop .inv .0, omega (arith, c .if2 .left), refl)
 
 pub read-piece-spec : {M : Type 1} → statement M
 read-piece-spec =

@@ -1,0 +1,17 @@
+-- `programs::draw::run` meets its contract. Assumes nothing.
+use borrow.Author.Needs.{needs}
+use Rattle.programs.proofs.Turns.{done-or-failed}
+use Rattle.programs.proofs.draw.run.Statement.{statement}
+use Rattle.programs.proofs.draw.run.Tie as tie
+
+work-requires : tie.Need-work-requires
+work-requires c κs = search needs
+
+status-requires : tie.Need-status-requires
+status-requires c κs = search needs
+
+returns : tie.Need-returns
+returns c = done-or-failed (c .before .work .result .kind) (c .status .result) (c .status .ensures)
+
+pub run-spec : {M : Type 1} → statement M
+run-spec = tie.close (tie.spec work-requires status-requires returns)
