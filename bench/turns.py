@@ -1,9 +1,10 @@
 #!/usr/bin/env python3
-"""Runs two programs in turn over one input, and prints the least processor time of each and their ratio.
+"""Runs two programs in turn over the same inputs, and prints the least processor time of each and their ratio.
 
-    bench/turns.py INPUT ROUNDS COUNT UNIT C_PROGRAM RATTLE_PROGRAM
+    bench/turns.py ROUNDS COUNT UNIT C_PROGRAM RATTLE_PROGRAM INPUT..
 
-COUNT is how many things of the name UNIT the input has: the time for one is printed, too. What the programs print is thrown away.
+Of each input the least time of all rounds counts, and these are summed. COUNT is how many things of the name UNIT all inputs have: the time for one is
+printed, too. What the programs print is thrown away.
 """
 import resource
 import subprocess
@@ -18,12 +19,15 @@ def seconds(program, given):
     return after.ru_utime + after.ru_stime - before.ru_utime - before.ru_stime
 
 
-given, rounds, count, unit = sys.argv[1], int(sys.argv[2]), int(sys.argv[3]), sys.argv[4]
-programs = {'C': sys.argv[5], 'Rattle': sys.argv[6]}
-least = {name: float('inf') for name in programs}
+rounds, count, unit = int(sys.argv[1]), int(sys.argv[2]), sys.argv[3]
+programs = {'C': sys.argv[4], 'Rattle': sys.argv[5]}
+inputs = sys.argv[6:]
+least = {name: dict.fromkeys(inputs, float('inf')) for name in programs}
 for _ in range(rounds):
-    for name, program in programs.items():
-        least[name] = min(least[name], seconds(program, given))
-for name, s in least.items():
+    for given in inputs:
+        for name, program in programs.items():
+            least[name][given] = min(least[name][given], seconds(program, given))
+total = {name: sum(of.values()) for name, of in least.items()}
+for name, s in total.items():
     print(f'{name}: {s:.3f} s, {s / count * 1e9:.0f} ns a {unit}, {count / s / 1e6:.1f} million a second')
-print(f"ratio {least['Rattle'] / least['C']:.2f}")
+print(f"ratio {total['Rattle'] / total['C']:.2f}")

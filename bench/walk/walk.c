@@ -1,123 +1,22 @@
-/* The program walk in C, for speed: what crates/walk prints, with the step of kernel.h. Lines are read where they lie in a large buffer. */
-#include <stdio.h>
-#include <stdlib.h>
-#include <unistd.h>
-#include "../step/kernel.h"
-
-enum { PIECE = 65536, ROOM = 128 };
-
-static char out[PIECE + ROOM];
-static size_t used;
-
-static void flush(void) {
-    for (size_t at = 0; at < used;) {
-        ssize_t n = write(1, out + at, used - at);
-        if (n <= 0) exit(2);
-        at += (size_t)n;
-    }
-    used = 0;
-}
-
-/* a decimal and the byte behind it */
-static inline char *put(char *to, uint64_t n, char end) {
-    if (n < 10) {
-        *to++ = (char)('0' + n);
-    } else {
-        char digits[20], *from = digits + 20;
-        for (; n; n /= 10) *--from = (char)('0' + n % 10);
-        size_t k = (size_t)(digits + 20 - from);
-        memcpy(to, from, k);
-        to += k;
-    }
-    *to++ = end;
-    return to;
-}
-
-/* a blank and a decimal without needless zeros, up to most; a null pointer where there is none */
-static inline const char *number(const char *p, const char *end, uint64_t most, uint64_t *value) {
-    if (end - p < 2 || *p++ != ' ') return 0;
-    uint64_t n = (uint64_t)(*p - '0');
-    if (n > 9) return 0;
-    if (n == 0) {
-        *value = 0;
-        return p + 1;
-    }
-    for (p++; p < end && *p != ' '; p++) {
-        uint64_t d = (uint64_t)(*p - '0');
-        if (d > 9 || n > UINT64_MAX / 10 || n * 10 > UINT64_MAX - d) return 0;
-        n = n * 10 + d;
-    }
-    *value = n;
-    return n <= most ? p : 0;
-}
-
-static inline unsigned named(const char *p, size_t n) {
-    switch (n) {
-    case 4: return !memcmp(p, "wake", 4) ? 5 : !memcmp(p, "open", 4) ? 7 : !memcmp(p, "done", 4) ? 11 : 0;
-    case 5: return !memcmp(p, "delay", 5) ? 4 : !memcmp(p, "entry", 5) ? 10 : !memcmp(p, "start", 5) ? 3 : 0;
-    case 6: return !memcmp(p, "closep", 6) ? 8 : !memcmp(p, "closef", 6) ? 9 : !memcmp(p, "create", 6) ? 1 : !memcmp(p, "object", 6) ? 2 : 0;
-    case 7: return !memcmp(p, "advance", 7) ? 6 : 0;
-    default: return 0;
-    }
-}
-
-/* operands in use: a is 1, b is 2, value is 4 */
-static const uint8_t uses[12] = { 0, 3, 3, 0, 4, 0, 4, 1, 3, 1, 3, 3 };
-
-/* Whether the line says a command. */
-static bool said(const char *p, const char *end, command *c) {
-    if (end - p > 64) return false;
-    const char *blank = p;
-    while (blank < end && *blank != ' ') blank++;
-    uint64_t a = 0, b = 0, value = 0;
-    unsigned op = named(p, (size_t)(blank - p));
-    if (!op) return false;
-    p = blank;
-    if (uses[op] & 1 && !(p = number(p, end, 255, &a))) return false;
-    if (uses[op] & 2 && !(p = number(p, end, 255, &b))) return false;
-    if (uses[op] & 4 && !(p = number(p, end, UINT64_MAX, &value))) return false;
-    *c = (command){ (uint8_t)op, (uint8_t)a, (uint8_t)b, value };
-    return p == end;
-}
+/* The program walk in C, for speed: what crates/walk prints, with the step of kernel.h. */
+#include "../lines.h"
 
 static kernel k;
 static uint64_t n;
 
-static void line(const char *p, const char *end) {
-    command c = { 0, 0, 0, 0 };
-    answer r;
-    if (said(p, end, &c)) r = step(&k, c);
-    else c.op = 0, r = 14 + 256u * (k.started ? k.ready[0] : 0);
+static bool line(const char *p, const char *end) {
+    command c;
+    answer r = carried_out(&k, p, end, &c);
     char *to = out + used;
     to = put(to, ++n, ' ');
     to = put(to, c.op, ' ');
-    to = put(to, r & 255, ' ');
-    to = put(to, r >> 8 & 255, ' ');
-    to = put(to, r >> 16, ' ');
-    to = put(to, k.clock, '\n');
-    used = (size_t)(to - out);
-    if (used >= PIECE) flush();
+    put_line(put_answer(to, r, k.clock));
+    return true;
 }
 
 int main(void) {
-    static char in[PIECE];
-    size_t held = 0;
-    ssize_t got;
-    static const char header[] = "n op code run rel clock\n";
-    memcpy(out, header, used = sizeof header - 1);
-    while ((got = read(0, in + held, sizeof in - held)) > 0) {
-        const char *p = in, *end = in + held + got, *stop;
-        while ((stop = memchr(p, '\n', (size_t)(end - p)))) {
-            line(p, stop);
-            p = stop + 1;
-        }
-        /* of a line that fills the buffer 65 bytes are enough to know that it is too long */
-        held = (size_t)(end - p);
-        if (held == sizeof in) held = 65;
-        memmove(in, p, held);
-    }
-    if (got < 0) return 2;
-    if (held) line(in, in + held);
+    put_text("n op code run rel clock\n");
+    each_line(line);
     flush();
     return 0;
 }

@@ -1,5 +1,5 @@
 -- The table of the powers of ten. That the table in the code is `powers-of-ten` is computed, one entry after the other, where it is lent
--- (proofs/put_decimal); here is what stands at each place of it. Assumes nothing.
+-- (proofs/put_number); here is what stands at each place of it. Assumes nothing.
 use Prim.Native.Nat.{ℕ, zero, suc, _*_, _^_, _<_}
 use native.Mathlib.Nat.{mul-assoc, pow-succ'}
 use native.Mathlib.Omega.{arith}

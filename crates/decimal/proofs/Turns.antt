@@ -1,6 +1,6 @@
 -- What a turn of each loop over digits does, over plain lists. Assumes nothing.
 use Prim.Native.Nat.{ℕ, zero, suc, _+_, _-_, _*_, _/_, _%_, _^_, _≤_, _<_}
-use native.Mathlib.Nat.{pow-suc, pow-succ', mul-assoc, one-le-pow, lt-of-mul-lt-mul-right}
+use native.Mathlib.Nat.{pow-suc, pow-succ', mul-assoc, one-le-pow, lt-of-mul-lt-mul-right, mul-le-mul-right}
 use native.Mathlib.Omega.{arith}
 use native.Mathlib.Numerals.{add-one}
 use mathlib.Core.Bool.{Bool, true, false, cond, not, _&&_, and-false}
@@ -108,6 +108,23 @@ number-law w most s r h es er =
 pub one-more : (n power digit rest : ℕ) → n < 10 * power → n ≡ digit * power + rest → power ≤ rest → (n ≡ (digit + 1) * power + (rest - power)) × (digit + 1 < 10)
 one-more n power digit rest h e l = (omega arith, lt-of-mul-lt-mul-right power (omega arith))
 
+-- the count that goes nine times. What was taken off and what is left make n; and for each turn to come the power fits once at most.
+abbrev pub Evenly : ℕ → ℕ → ℕ → ℕ → ℕ → Type 0
+Evenly n power rest digit turns = (n ≡ digit * power + rest) × (digit ≤ turns) × (turns ≤ 9) × (rest + turns * power < 10 * power)
+
+module _ (n power rest digit turns : ℕ) (e : Evenly n power rest digit turns) where
+  pub taken-off : turns < 9 → power ≤ rest → Evenly n power (rest - power) (digit + 1) (turns + 1)
+  taken-off h l = (omega arith, omega arith, omega arith, omega arith)
+
+  pub left-on : turns < 9 → rest < power → Evenly n power rest digit (turns + 1)
+  left-on h l = (e .0, omega arith, omega arith, omega (arith, mul-le-mul-right {m = turns + 1} {n = 9} power (omega arith)))
+
+  pub nine-times : 9 ≤ turns → (n ≡ digit * power + rest) × (rest < power) × (digit < 10)
+  nine-times h =
+      let t : turns ≡ 9 = omega arith in
+      let l : rest + 9 * power < 10 * power = rw t at (e .3) in
+      (e .0, omega arith, omega arith)
+
 pub next-power : (k : ℕ) → 0 < k → 10 ^ k ≡ 10 * 10 ^ (k - 1)
 next-power k h = let e : suc (k - 1) ≡ k = omega arith in ap (λ (j : ℕ). 10 ^ j) (sym e) ∙ pow-succ' 10 (k - 1)
 
@@ -143,9 +160,13 @@ digit-turn out place left n d r h e l g =
     ∙ ap (λ (l : List ℕ). sets out place l)
     (sym (first-digit (left - 1) d r g l) ∙ ap (λ (m : ℕ). last-digits (suc (left - 1)) m) (sym e) ∙ ap (λ (k : ℕ). last-digits k n) s)
 
-pub digits-stored : (out : List ℕ) (at left n : ℕ) → left ≤ 0 → sets out at (last-digits left n) ≡ out
+-- the last two: what is left behind the tens is its own digit
+pub two-stored : (out : List ℕ) (at n d r : ℕ) → n ≡ d * 10 + r → r < 10 → d < 10
+    → set (set out at (48 + d)) (at + 1) (48 + r) ≡ sets out at (last-digits 2 n)
 unfolding last-digits
-digits-stored out at left n h = let e : left ≡ 0 = omega arith in rw e
+two-stored out at n d r e l g =
+    let q : r % 10 ≡ r = omega arith in
+    ap (λ (x : ℕ). set (set out at (48 + d)) (at + 1) (48 + x)) (sym q) ∙ digit-turn out at 2 n d r (omega arith) e l g
 
 pub decimal-digits : (most n : ℕ) → decimal-in most n ≡ last-digits (width-in most n) n
 unfolding decimal-in width-in last-digits
@@ -182,6 +203,10 @@ width-some most n = omega arith
 pub width-most : (n : ℕ) → width-in 20 n ≤ 20
 width-most n = omega (arith, length-decimal n, decimal-most n)
 
+-- a number from one power of ten on and below the next
+pub width-between : (k n : ℕ) → k < 20 → 10 ^ k ≤ n → n < 10 ^ suc k → suc k ≡ width-in 20 n
+width-between k n h l g = omega (arith, wide-enough 20 k n h l, narrow-enough (suc k) n (omega arith) g)
+
 -- a number below ten is its own digit
 pub own-digit : (out : List ℕ) (at n : ℕ) → n < 10 → (at + 1 ≡ at + length (decimal n)) × (set out at (48 + n) ≡ sets out at (decimal n))
 unfolding decimal
@@ -190,10 +215,8 @@ own-digit out at n h =
     let d : decimal-in 20 n ≡ (48 + n) ∷ [] = small-decimal 19 n h ∙ ap (λ (x : ℕ). (48 + x) ∷ []) e in
     (rw d, rw d)
 
-module _ (out : List ℕ) (at k n : ℕ) (e : k ≡ width-in 20 n) where
-  pub decimal-stored : sets out at (last-digits k n) ≡ sets out at (decimal n)
-  unfolding decimal
-  decimal-stored = rw (e, decimal-digits 20 n)
-
-  pub decimal-length : at + k ≡ at + length (decimal n)
-  decimal-length = ap (λ (j : ℕ). at + j) (e ∙ sym (length-decimal n))
+-- and any other is its digits, as many as it has
+pub all-digits : (out : List ℕ) (at k n : ℕ) (after : List ℕ) → k ≡ width-in 20 n → after ≡ sets out at (last-digits k n)
+    → (at + k ≡ at + length (decimal n)) × (after ≡ sets out at (decimal n))
+unfolding decimal
+all-digits out at k n after e p = (ap (λ (j : ℕ). at + j) (e ∙ sym (length-decimal n)), p ∙ rw (e, decimal-digits 20 n))

@@ -1,0 +1,44 @@
+# A program of the bench beside the same work in C. bench/walk/run, bench/draw/run and bench/judge/run read this file, in the repository's root.
+out=target/bench
+mkdir -p "$out"
+me=$0
+
+# wanted COMMAND..: the machine and the commands that a bench wants. On Arm the proved program would run under an emulator, and a time would say nothing.
+wanted() {
+    if [ "$(uname -m)" != x86_64 ]; then
+        echo "$me: this is $(uname -m); the times mean something on x86-64 only. Run it there." >&2
+        exit 2
+    fi
+    for command in rt gcc python3 "$@"; do
+        command -v "$command" >/dev/null || { echo "$me: $command is missing; install it and run this again." >&2; exit 3; }
+    done
+}
+
+# proved PROGRAM: proves crates/PROGRAM and builds it as target/bin/PROGRAM.
+proved() {
+    rt check "$1" >"$out/$1.log" 2>&1 || { tail -n 5 "$out/$1.log" >&2; echo "$me: $1 was not built; all that rt said is in $out/$1.log" >&2; exit 1; }
+}
+
+# in_c NAME SOURCE: builds a source in C as target/bench/c_NAME.
+in_c() {
+    gcc -O2 -std=gnu99 -Wall -Wextra -Werror -o "$out/c_$1" "$2"
+}
+
+# same PROGRAM INPUT: both print the same, byte for byte; the C's is left in target/bench/c.out.
+same() {
+    "target/bin/$1" <"$2" >"$out/rattle.out"
+    "$out/c_$1" <"$2" >"$out/c.out"
+    cmp "$out/rattle.out" "$out/c.out"
+}
+
+# instructions PROGRAM UNIT MANY SHORT LONG: the instructions for one UNIT, where valgrind is there: what LONG takes more than SHORT, which is LONG without its last MANY.
+instructions() {
+    if command -v valgrind >/dev/null; then
+        for program in "$out/c_$1" "target/bin/$1"; do
+            echo "$program: $((($(counted "$program" "$5") - $(counted "$program" "$4")) / $3)) instructions a $2"
+        done
+    fi
+}
+counted() {
+    valgrind --tool=callgrind --callgrind-out-file=/dev/null "$1" <"$2" 2>&1 >/dev/null | sed -n 's/.*I *refs: *//p' | tr -d ,
+}
