@@ -11,7 +11,10 @@ use lib.ListN.{getD, List·getD-eq-default}
 use borrow.Author.Tests.{eqb-true, eq-eqb, eqb-false, ltb-true, ltb-false, leb-true, leb-false, le-ltb, not-false, not-true}
 use Rattle.rules.specs.Line.{at, within, all-below, front, empty, first-alone, at-tail, count}
 use Rattle.rules.specs.Machine.{Machine, Command, active, runner, created}
-use Rattle.rules.specs.Kinds.{Ending, Kind, no-kind, creating, declaring, starting, delaying, waking, advancing, opening, entering, ending, kinds, last-op, kind-at, kind}
+use Rattle.rules.specs.declared.Kind.{Kind}
+use Rattle.rules.specs.declared.Kind.the-variants.{NoKind, Creating, Declaring, Starting, Delaying, Waking, Advancing, Opening, Entering, Ending}
+use Rattle.rules.specs.declared.End.{End}
+use Rattle.rules.specs.Kinds.{kinds, last-op, kind-at, kind}
 use Rattle.rules.specs.Table.{Out, same, take, yield, sleep, await, Rel, none, due, serve, Effect, nothing, creates, declares, begins, moves, opens, closing, effect-of, effect, freed, enter, release}
 use Rattle.rules.specs.Refusals.{checks-of, checks, first-number, refusal, fits, holds-so}
 use Rattle.rules.proofs.Words.{All}
@@ -36,16 +39,16 @@ passed (x ∷ l) k e n = go (x .0) (passed l (k .1)) e
 
 -- Of an accepted command the check numbered n did not hold.
 numbers : (k : Kind) (m : Machine) (c : Command) → All (λ x. x .1 ≢ 0) (checks-of k m c)
-numbers no-kind m c = omega arith
-numbers creating m c = omega arith
-numbers declaring m c = omega arith
-numbers starting m c = omega arith
-numbers delaying m c = omega arith
-numbers waking m c = omega arith
-numbers advancing m c = omega arith
-numbers opening m c = omega arith
-numbers entering m c = omega arith
-numbers (ending e) m c = omega arith
+numbers NoKind m c = omega arith
+numbers Creating m c = omega arith
+numbers Declaring m c = omega arith
+numbers Starting m c = omega arith
+numbers Delaying m c = omega arith
+numbers Waking m c = omega arith
+numbers Advancing m c = omega arith
+numbers Opening m c = omega arith
+numbers Entering m c = omega arith
+numbers (Ending e) m c = omega arith
 
 pub check-passed : (m : Machine) (c : Command) (k : Kind) → kind c ≡ k → refusal m c ≡ 0 → (n : ℕ) → numbered n (checks-of k m c) ≡ false
 unfolding refusal
@@ -116,7 +119,7 @@ module _ (m : Machine) (s : Sound m) where
   closes-front o h w q false = refl
 
   -- The end of a body: the runner holds the object, in whatever way, and stays in front of whoever is served.
-  closes : (c : Command) (e : Ending) → m .started ≡ true → not (not (eqb (at (m .ceiling) (c .a)) 0)) ≡ false → runner m ≢ 0 → not (holds-so m (c .a) (e .way)) ≡ false
+  closes : (c : Command) (e : End) → m .started ≡ true → not (not (eqb (at (m .ceiling) (c .a)) 0)) ≡ false → runner m ≢ 0 → not (holds-so m (c .a) (e .way)) ≡ false
       → Allowed m (closing (e .serves) c)
   closes c e on there busy so =
       let k = closes-front (c .a) there (e .way) so (e .serves && opens c) in
@@ -141,31 +144,31 @@ module _ (m : Machine) (s : Sound m) where
   -- Kind by kind.
   by-kind : (c : Command) (k : Kind) → ((n : ℕ) → numbered n (checks-of k m c) ≡ false) → Allowed m (effect-of k m c)
   unfolding release
-  by-kind c no-kind p = tt
-  by-kind c creating p =
+  by-kind c NoKind p = tt
+  by-kind c Creating p =
       let f = both-true (within 1 31 (c .a) && within 1 15 (c .b)) (eqb (c .value) 0) (not-false _ (p 4)) .0 in
       let g = both-true (within 1 31 (c .a)) (within 1 15 (c .b)) f in
       let t = within-true 1 31 (c .a) (g .0) in
       record { off = off-start (p 3); new = p 5; task = (t .0, omega (arith, t .1)); rank = within-true 1 15 (c .b) (g .1) }
-  by-kind c declaring p =
+  by-kind c Declaring p =
       let f = both-true (within 1 7 (c .a) && within 1 15 (c .b)) (eqb (c .value) 0) (not-false _ (p 4)) .0 in
       let g = both-true (within 1 7 (c .a)) (within 1 15 (c .b)) f in
       let t = within-true 1 7 (c .a) (g .0) in
       record { off = off-start (p 3); object = (t .0, omega (arith, t .1)); rank = within-true 1 15 (c .b) (g .1) }
-  by-kind c starting p = off-start (p 3)
-  by-kind c delaying p =
+  by-kind c Starting p = off-start (p 3)
+  by-kind c Delaying p =
       let f = both-true (eqb (c .a) 0 && eqb (c .b) 0) (ltb (c .value) (2 ^ 64)) (not-false _ (p 4)) .1 in
       record { on = not-false _ (p 2); leaves = delays (c .value) (leaves (p 7) (p 8)) f (ltb (m .clock) (c .value)) refl; in-front = λ n. refl; in-time = still }
-  by-kind c waking p = record { on = not-false _ (p 2); leaves = tt; in-front = λ n. absurd (n refl); in-time = still }
-  by-kind c advancing p = record { on = not-false _ (p 2); leaves = tt; in-front = λ n. absurd (n refl); in-time = ltb-true _ _ (not-false _ (p 13)) }
-  by-kind c opening p =
+  by-kind c Waking p = record { on = not-false _ (p 2); leaves = tt; in-front = λ n. absurd (n refl); in-time = still }
+  by-kind c Advancing p = record { on = not-false _ (p 2); leaves = tt; in-front = λ n. absurd (n refl); in-time = ltb-true _ _ (not-false _ (p 13)) }
+  by-kind c Opening p =
       record {
         on = not-false _ (p 2);
         leaves = record { leaves = leaves (p 7) (p 8); admits = admitted (c .a) (p 6) (p 10); unheld = unheld (c .a) (p 11); in-one-way = (omega arith, omega arith) };
         in-front = λ n. refl;
         in-time = still;
       }
-  by-kind c entering p =
+  by-kind c Entering p =
       let f = both-true (within 1 7 (c .a)) (leb (c .b) 1) (both-true (within 1 7 (c .a) && leb (c .b) 1) (eqb (c .value) 0) (not-false _ (p 4)) .0) .1 in
       record {
         on = not-false _ (p 2);
@@ -173,7 +176,7 @@ module _ (m : Machine) (s : Sound m) where
         in-front = λ n. refl;
         in-time = still;
       }
-  by-kind c (ending e) p = closes c e (not-false _ (p 2)) (p 6) (eqb-false _ _ (p 7)) (p 9)
+  by-kind c (Ending e) p = closes c e (not-false _ (p 2)) (p 6) (eqb-false _ _ (p 7)) (p 9)
 
   pub allowed : (c : Command) → refusal m c ≡ 0 → Allowed m (effect m c)
   allowed c ok = by-kind c (kind c) (check-passed m c (kind c) refl ok)
@@ -192,16 +195,16 @@ not-due false o e = let z : _≡_ {A = ℕ} 0 1 = cc in absurd (omega arith)
 
 -- which of the two it may be: 1 by a Wake, 2 by the end of a body with a barrier, 0 neither
 abbrev pub releasing : Kind → ℕ
-releasing no-kind = 0
-releasing creating = 0
-releasing declaring = 0
-releasing starting = 0
-releasing delaying = 0
-releasing waking = 1
-releasing advancing = 0
-releasing opening = 0
-releasing entering = 0
-releasing (ending e) = cond (e .serves) 2 0
+releasing NoKind = 0
+releasing Creating = 0
+releasing Declaring = 0
+releasing Starting = 0
+releasing Delaying = 0
+releasing Waking = 1
+releasing Advancing = 0
+releasing Opening = 0
+releasing Entering = 0
+releasing (Ending e) = cond (e .serves) 2 0
 
 pub data Releases (k : Kind) (rel : Rel) : Type 0 where
   nobody : rel ≡ none → Releases k rel
@@ -209,28 +212,28 @@ pub data Releases (k : Kind) (rel : Rel) : Type 0 where
   served : releasing k ≡ 2 → (rel ≡ due → ⊥) → Releases k rel
 
 pub releases : (m : Machine) (c : Command) (k : Kind) → Releases k (rel-of (effect-of k m c))
-releases m c no-kind = nobody refl
-releases m c creating = nobody refl
-releases m c declaring = nobody refl
-releases m c starting = nobody refl
-releases m c delaying = nobody refl
-releases m c waking = woken refl
-releases m c advancing = nobody refl
-releases m c opening = nobody refl
-releases m c entering = nobody refl
-releases m c (ending e) = go (e .serves) refl
+releases m c NoKind = nobody refl
+releases m c Creating = nobody refl
+releases m c Declaring = nobody refl
+releases m c Starting = nobody refl
+releases m c Delaying = nobody refl
+releases m c Waking = woken refl
+releases m c Advancing = nobody refl
+releases m c Opening = nobody refl
+releases m c Entering = nobody refl
+releases m c (Ending e) = go (e .serves) refl
   where
-    go : (b : Bool) → e .serves ≡ b → Releases (ending e) (cond (e .serves && opens c) (serve (c .a)) none)
+    go : (b : Bool) → e .serves ≡ b → Releases (Ending e) (cond (e .serves && opens c) (serve (c .a)) none)
     go true s = served (rw s) (not-due (e .serves && opens c) (c .a))
     go false s = nobody (rw s)
 
 -- A rule over all ops holds where it holds of those of the table, and of what is no op.
-each-op : (f : ℕ → Kind → Bool) → all-below (suc last-op) (λ n. f n (kind-at n)) ≡ true → ((n : ℕ) → f n no-kind ≡ true) → (op : ℕ) → f op (kind-at op) ≡ true
+each-op : (f : ℕ → Kind → Bool) → all-below (suc last-op) (λ n. f n (kind-at n)) ≡ true → ((n : ℕ) → f n NoKind ≡ true) → (op : ℕ) → f op (kind-at op) ≡ true
 each-op f known other op = go (ltb op (suc last-op)) refl
   where
     go : (b : Bool) → ltb op (suc last-op) ≡ b → f op (kind-at op) ≡ true
     go true e = tests-all-below (λ n. tests-is (f n (kind-at n))) (suc last-op) .sure known op (ltb-true _ _ e)
-    go false e = rw (List·getD-eq-default kinds no-kind {n = op} (ltb-false _ _ e)) (other op)
+    go false e = rw (List·getD-eq-default kinds NoKind {n = op} (ltb-false _ _ e)) (other op)
 
 -- The ops that may release are 5, and 8 and 11.
 pub wake-op : (op : ℕ) → releasing (kind-at op) ≡ 1 → op ≡ 5

@@ -12,7 +12,9 @@ use lib.ListN.{getD, replicate}
 use borrow.Author.Tests.{ne-eqb}
 use Rattle.rules.specs.Line.{at, front, neighbours}
 use Rattle.rules.specs.Machine.{Machine, Command, fresh, runner, running}
-use Rattle.rules.specs.Kinds.{Kind, no-kind, creating, declaring, starting, delaying, waking, advancing, opening, entering, ending}
+use Rattle.rules.specs.declared.Kind.{Kind}
+use Rattle.rules.specs.declared.Kind.the-variants.{NoKind, Creating, Declaring, Starting, Delaying, Waking, Advancing, Opening, Entering, Ending}
+use Rattle.rules.specs.declared.End.{End}
 use Rattle.rules.specs.Refusals.{behind-range, refusal}
 use Rattle.rules.specs.Sound.{sound}
 use Rattle.rules.specs.Run.{accepts, next, released, answer, run, answers, question, wakes-left}
@@ -139,16 +141,16 @@ closing-empties before c ok op = closed-holds-nothing (run fresh before) (run-so
 -- is the least that holds.
 -- Rules out: a row of checks in another order. Leaves: which checks a kind has (Limits, by computing).
 pub checks-in-order : (k : Kind) (m : Machine) (c : Command) → neighbours (λ x y. ltb (x .1) (y .1)) (behind-range k m c) ≡ true
-checks-in-order no-kind m c = refl
-checks-in-order creating m c = refl
-checks-in-order declaring m c = refl
-checks-in-order starting m c = refl
-checks-in-order delaying m c = refl
-checks-in-order waking m c = refl
-checks-in-order advancing m c = refl
-checks-in-order opening m c = refl
-checks-in-order entering m c = refl
-checks-in-order (ending e) m c = refl
+checks-in-order NoKind m c = refl
+checks-in-order Creating m c = refl
+checks-in-order Declaring m c = refl
+checks-in-order Starting m c = refl
+checks-in-order Delaying m c = refl
+checks-in-order Waking m c = refl
+checks-in-order Advancing m c = refl
+checks-in-order Opening m c = refl
+checks-in-order Entering m c = refl
+checks-in-order (Ending e) m c = refl
 
 -- ## Who is served
 -- An accepted closep or done with barrier 1 releases the task that waits on its object (0: none does), and nobody waits there any more; with

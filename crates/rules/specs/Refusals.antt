@@ -8,7 +8,10 @@ use lib.Dec.{eqb, leb, ltb}
 use lib.ListN.{getD}
 use Rattle.rules.specs.Line.{at, count, empty, within}
 use Rattle.rules.specs.Machine.{Machine, Command, created, declared, empty-handed, runner}
-use Rattle.rules.specs.Kinds.{Ending, Kind, no-kind, creating, declaring, starting, delaying, waking, advancing, opening, entering, ending, kind}
+use Rattle.rules.specs.declared.Kind.{Kind}
+use Rattle.rules.specs.declared.Kind.the-variants.{NoKind, Creating, Declaring, Starting, Delaying, Waking, Advancing, Opening, Entering, Ending}
+use Rattle.rules.specs.declared.End.{End}
+use Rattle.rules.specs.Kinds.{kind}
 
 -- What an operand may be. (Of what is no op nothing fits. A priority may be a ceiling. Ticks are bounded by 13.)
 pub data Operand : Type 0 where
@@ -34,16 +37,16 @@ abbrev uses : Operand → Operand → Operand → Operands
 uses a b value = record { a = a; b = b; value = value }
 
 abbrev pub operands : Kind → Operands
-operands no-kind = uses never never never
-operands creating = uses task priority unused
-operands declaring = uses object priority unused
-operands starting = uses unused unused unused
-operands delaying = uses unused unused time
-operands waking = uses unused unused unused
-operands advancing = uses unused unused ticks
-operands opening = uses object unused unused
-operands entering = uses object barrier unused
-operands (ending e) = uses object (cond (e .serves) barrier unused) unused
+operands NoKind = uses never never never
+operands Creating = uses task priority unused
+operands Declaring = uses object priority unused
+operands Starting = uses unused unused unused
+operands Delaying = uses unused unused time
+operands Waking = uses unused unused unused
+operands Advancing = uses unused unused ticks
+operands Opening = uses object unused unused
+operands Entering = uses object barrier unused
+operands (Ending e) = uses object (cond (e .serves) barrier unused) unused
 
 -- a known op, and each operand what it may be
 abbrev pub formed-as : Kind → Command → Bool
@@ -112,16 +115,16 @@ clock-past m c = (not (ltb (m .clock + c .value) (2 ^ 64)), 13)
 
 -- Order of a step's checks: 4, then 2 or 3, then 5 to 13. Behind 4 each kind has those that speak of its ops (what stands in [ ] above).
 abbrev pub behind-range : Kind → Machine → Command → List (Bool × ℕ)
-behind-range no-kind m c = []
-behind-range creating m c = late m ∷ task-taken m c ∷ []
-behind-range declaring m c = late m ∷ object-taken m c ∷ []
-behind-range starting m c = late m ∷ []
-behind-range delaying m c = early m ∷ idle m ∷ inside m ∷ []
-behind-range waking m c = early m ∷ []
-behind-range advancing m c = early m ∷ clock-past m c ∷ []
-behind-range opening m c = early m ∷ missing m c ∷ idle m ∷ inside m ∷ ceiling-below m c ∷ held-by-another m c ∷ []
-behind-range entering m c = early m ∷ missing m c ∷ idle m ∷ inside m ∷ ceiling-below m c ∷ held-by-another m c ∷ queue-full m c ∷ []
-behind-range (ending e) m c = early m ∷ missing m c ∷ idle m ∷ outside (e .way) m c ∷ []
+behind-range NoKind m c = []
+behind-range Creating m c = late m ∷ task-taken m c ∷ []
+behind-range Declaring m c = late m ∷ object-taken m c ∷ []
+behind-range Starting m c = late m ∷ []
+behind-range Delaying m c = early m ∷ idle m ∷ inside m ∷ []
+behind-range Waking m c = early m ∷ []
+behind-range Advancing m c = early m ∷ clock-past m c ∷ []
+behind-range Opening m c = early m ∷ missing m c ∷ idle m ∷ inside m ∷ ceiling-below m c ∷ held-by-another m c ∷ []
+behind-range Entering m c = early m ∷ missing m c ∷ idle m ∷ inside m ∷ ceiling-below m c ∷ held-by-another m c ∷ queue-full m c ∷ []
+behind-range (Ending e) m c = early m ∷ missing m c ∷ idle m ∷ outside (e .way) m c ∷ []
 
 abbrev pub checks-of : Kind → Machine → Command → List (Bool × ℕ)
 checks-of k m c = range k c ∷ behind-range k m c

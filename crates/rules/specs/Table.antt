@@ -7,7 +7,10 @@ use lib.Dec.{eqb, leb, ltb}
 use lib.ListN.{getD, set}
 use Rattle.rules.specs.Line.{at, front, rest, empty, first-alone, at-tail, at-head, by-time}
 use Rattle.rules.specs.Machine.{Machine, Command, active, runner, tasks, for-open, for-entry}
-use Rattle.rules.specs.Kinds.{Ending, Kind, no-kind, creating, declaring, starting, delaying, waking, advancing, opening, entering, ending, kind}
+use Rattle.rules.specs.declared.Kind.{Kind}
+use Rattle.rules.specs.declared.Kind.the-variants.{NoKind, Creating, Declaring, Starting, Delaying, Waking, Advancing, Opening, Entering, Ending}
+use Rattle.rules.specs.declared.End.{End}
+use Rattle.rules.specs.Kinds.{kind}
 
 -- The way out of the runner: where it goes.
 pub data Out : Type 0 where
@@ -48,25 +51,25 @@ closing serves c = moves close (cond (serves && opens c) (serve (c .a)) none) 0
 
 -- The table: a row for each kind of command.
 abbrev pub effect-of : Kind → Machine → Command → Effect
-effect-of no-kind m c = nothing
+effect-of NoKind m c = nothing
 -- 1 create a=task b=priority: created, placed at the tail of its base
-effect-of creating m c = creates (c .a) (c .b)
+effect-of Creating m c = creates (c .a) (c .b)
 -- 2 object a=object b=ceiling: declared
-effect-of declaring m c = declares (c .a) (c .b)
+effect-of Declaring m c = declares (c .a) (c .b)
 -- 3 start: the front runs
-effect-of starting m c = begins
+effect-of Starting m c = begins
 -- 4 delay value=time: time above the clock: into the delay line. Otherwise: the runner goes to the tail of its base and stays ready
-effect-of delaying m c = moves (cond (ltb (m .clock) (c .value)) (sleep (c .value)) yield) none 0
+effect-of Delaying m c = moves (cond (ltb (m .clock) (c .value)) (sleep (c .value)) yield) none 0
 -- 5 wake: the first delay entry, if its time is at most the clock, goes to the tail of its base and is the released task; otherwise nothing changes
-effect-of waking m c = moves same (cond (first-due m) due none) 0
+effect-of Waking m c = moves same (cond (first-due m) due none) 0
 -- 6 advance value=ticks: the clock grows by that much; 0 is allowed
-effect-of advancing m c = moves same none (c .value)
+effect-of Advancing m c = moves same none (c .value)
 -- 7 open a=object: the runner holds it, for a procedure or function
-effect-of opening m c = moves (take (c .a) for-open) none 0
+effect-of Opening m c = moves (take (c .a) for-open) none 0
 -- 10 entry a=object b=barrier: b 1: the runner holds it, for an entry, whoever waits. b 0: the runner leaves the line and waits on the object
-effect-of entering m c = moves (cond (eqb (c .b) 1) (take (c .a) for-entry) (await (c .a))) none 0
+effect-of Entering m c = moves (cond (eqb (c .b) 1) (take (c .a) for-entry) (await (c .a))) none 0
 -- 8 closep, 9 closef and 11 done: the end of a body, which serves by its barrier or has none
-effect-of (ending e) m c = closing (e .serves) c
+effect-of (Ending e) m c = closing (e .serves) c
 
 abbrev pub effect : Machine → Command → Effect
 effect m c = effect-of (kind c) m c
