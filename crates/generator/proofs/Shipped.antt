@@ -21,7 +21,7 @@ use Rattle.rules.proofs.Walk.{set-up}
 use Rattle.kernel.specs.declared.Kernel.{Kernel}
 use Rattle.kernel.specs.declared.command.Command.{Command}
 use Rattle.kernel.specs.View.{view, encode}
-use Rattle.kernel.specs.Public.{isSound, stepOf, stepped, said}
+use Rattle.kernel.specs.Public.{isSound, stepOf, stepped, said, runningOf}
 use Rattle.kernel.proofs.Round.{view-encode}
 use Rattle.kernel.proofs.Written.{encode-sound, stands, step-sound}
 use Rattle.generator.specs.declared.Profile.{Profile}
@@ -29,7 +29,7 @@ use Rattle.generator.specs.declared.Drawn.{Drawn}
 use Rattle.generator.specs.Xorshift.{draw}
 use Rattle.generator.specs.Draw as draws
 use Rattle.generator.specs.Draw.{good-profile, chosen, draw-refusal, drawn}
-use Rattle.generator.specs.Public.{profileOf, toldDrawn, refusedOf, madeOf, drawnIn, drawnOf, drawsOf}
+use Rattle.generator.specs.Public.{profileOf, toldDrawn, refusedOf, madeOf, drawnIn, drawnOf, behindDraw, unmoved, answerTo, drawsOf}
 use Rattle.generator.proofs.Theorems.{drawn-is-fine, seed-left, refused-draw, seed-lives, drawn-delay}
 
 -- The two ways of a draw: of a sound state it is the draw of the machine; any other is refused with 1.
@@ -45,7 +45,7 @@ ways k seed p = go (isSound k) refl
     go true e = tested e (rw e)
     go false e = unsound e (rw e)
 
-code-same : {d e : Drawn} → d ≡ e → d .code ≡ e .code
+pub code-same : {d e : Drawn} → d ≡ e → d .code ≡ e .code
 code-same q = ap (λ (d : Drawn). d .code) q
 
 machine-sound : (k : Kernel) → isSound k ≡ true → sound (view k) ≡ true
@@ -83,6 +83,32 @@ drawn-accepted k seed p e = go (ways k seed p)
     go (tested s q) = rw (q, s) (drawn-is-fine (view k) seed (profileOf p) (machine-sound k s) (sym (code-same q) ∙ e) .accepted)
     go (unsound s q) = absurd (omega (arith, code-same q))
 
+-- ## A draw with its step
+-- A draw that is made comes from a sound state.
+pub made-sound : (k : Kernel) (seed : ℕ) (p : Profile) → drawnOf k seed p .code ≡ 0 → isSound k ≡ true
+made-sound k seed p e = go (ways k seed p)
+  where
+    go : Tested k seed p → isSound k ≡ true
+    go (tested s q) = s
+    go (unsound s q) = absurd (omega (arith, code-same q))
+
+-- A refused draw leaves the state; one that is made is a step.
+pub refused-stays : (k : Kernel) (d : Drawn) → d .code ≢ 0 → (k ≡ behindDraw k d) × (unmoved (d .code) (runningOf k) ≡ answerTo k d)
+refused-stays k d n = (rw (ne-eqb (d .code) 0 n), rw (ne-eqb (d .code) 0 n))
+
+pub made-steps : (k : Kernel) (d : Drawn) → d .code ≡ 0 → (stepped k (d .command) .next ≡ behindDraw k d) × (stepped k (d .command) .answer ≡ answerTo k d)
+made-steps k d e = (rw (eq-eqb (d .code) 0 e), rw (eq-eqb (d .code) 0 e))
+
+-- The answer of a draw with its step has the draw's code: 0 for a draw that is made, since its command is accepted, and its number for a refused one.
+-- Rules out: a drawn command that the step refuses.
+pub answered-code : (k : Kernel) (seed : ℕ) (p : Profile) → let d = drawnOf k seed p in answerTo k d .code ≡ d .code
+answered-code k seed p = go (eqb (drawnOf k seed p .code) 0) refl
+  where
+    go : (b : Bool) → eqb (drawnOf k seed p .code) 0 ≡ b → answerTo k (drawnOf k seed p) .code ≡ drawnOf k seed p .code
+    go true e = let z = eqb-true _ _ e in rw e (drawn-accepted k seed p z ∙ sym z)
+    go false e = rw e
+
+-- ## What is drawn
 -- It is of an op 4..11, and that kind's weight is not 0.
 pub drawn-has-weight : (k : Kernel) (seed : ℕ) (p : Profile) → drawnOf k seed p .code ≡ 0
     → (4 ≤ drawnOf k seed p .command .op) × (drawnOf k seed p .command .op ≤ 11) × (1 ≤ at (p .weights) (drawnOf k seed p .command .op - 4))

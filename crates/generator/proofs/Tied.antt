@@ -9,16 +9,19 @@ use lib.ListN.{length, getD, drop, drop-of-length-le}
 use lib.Seq.{drop-cons}
 use borrow.Author.Tests.{eqb-true, ltb-true, ltb-false, lt-ltb, le-ltb, ne-eqb}
 use Rattle.rules.specs.Line.{at, empty, front, rest}
-use Rattle.rules.specs.Machine.{Machine}
+use Rattle.rules.specs.Machine.{Machine, for-open, for-entry}
 use Rattle.rules.specs.Machine as rules
 use Rattle.kernel.specs.declared.Kernel.{Kernel}
 use Rattle.kernel.specs.declared.command.Command.{Command}
 use Rattle.kernel.specs.View.{view, with-idle, nobody-or}
+use Rattle.generator.specs.declared.Drawn.{Drawn}
+use Rattle.generator.specs.declared.Profile as given
 use Rattle.generator.specs.declared.Sight.{Sight}
-use Rattle.generator.specs.Menu.{sift, objects, menu, span-fits, free-runner}
+use Rattle.generator.specs.Xorshift.{draw}
+use Rattle.generator.specs.Menu.{menu, span-fits, free-runner, inside, hand, eligibles, pick}
 use Rattle.generator.specs.Draw.{Profile, weigh, total, choose, chosen, no-command}
-use Rattle.generator.specs.Public.{toldCommand}
-use Rattle.generator.specs.Tables.{eligibleIn, sightOf, worthsOf, sumOf, indexOf, opsOf, firstsOf, secondsOf, valuesOf, commandAt}
+use Rattle.generator.specs.Public.{profileOf, toldCommand, madeOf}
+use Rattle.generator.specs.Tables.{sightIn, worthsOf, sumOf, indexOf, kindOf, opsOf, firstsOf, secondsOf, valuesOf, commandAt, threeFrom, madeIn}
 
 -- ## What a draw looks at
 -- The runner is what stands first in the table of the ready line, 0 for idle.
@@ -44,29 +47,22 @@ some-read : (l : List ℕ) → not (empty l) ≡ not (eqb (length l) 0)
 some-read [] = refl
 some-read (x ∷ l) = rw (ne-eqb (suc (length l)) 0 (λ e. omega arith))
 
--- the eligible objects by the tables, and what is seen by them
-abbrev runner-in : Kernel → ℕ
-runner-in k = at (k .ready) 0
-
-abbrev pub eligibles-in : Kernel → List ℕ
-eligibles-in k = sift (eligibleIn (k .ceiling) (k .held) (at (k .base) (runner-in k))) objects
-
-abbrev pub sightIn : Kernel → ℕ → ℕ → ℕ → Bool → Sight
-sightIn k d2 count object room =
-    let h = at (k .held) (runner-in k) in
+-- What a draw looks at, of the machine; and the tables say the same.
+unfoldable sightOf : Machine → ℕ → ℕ → Sight
+sightOf m span d2 =
     record {
-      free = not (eqb (runner-in k) 0) && eqb h 0;
-      opened = not (eqb h 0) && eqb (at (k .way) (runner-in k)) 1;
-      entered = not (eqb h 0) && eqb (at (k .way) (runner-in k)) 2;
-      hand = h;
-      some = not (eqb count 0);
-      object = object;
-      quiet = eqb (at (k .waiter) object) 0;
-      room = room;
+      free = free-runner m;
+      opened = inside m for-open;
+      entered = inside m for-entry;
+      hand = hand m;
+      some = not (empty (eligibles m));
+      object = pick m d2;
+      quiet = empty (getD (m .queue) (pick m d2) []);
+      room = span-fits m span;
     }
 
-pub seen : (k : Kernel) (span d2 : ℕ) → sightOf (view k) span d2 ≡ sightIn k d2 (length (eligibles-in k)) (getD (eligibles-in k) (d2 % length (eligibles-in k)) 0) (span-fits (view k) span)
-unfolding sightOf view
+seen : (k : Kernel) (span d2 : ℕ) → sightOf (view k) span d2 ≡ sightIn (k .base) (k .ready) (k .held) (k .way) (k .ceiling) (k .waiter) (k .clock) span d2
+unfolding sightOf sightIn view
 seen k span d2 = rw (runner-read (k .ready), quiet-read (k .waiter), some-read)
 
 -- ## The choice by an index
@@ -111,10 +107,6 @@ no-time free true w v d ws vs = refl
 no-time true false w v d ws vs = rw (le-ltb d 0 (omega arith))
 no-time false false w v d ws vs = rw (le-ltb d 0 (omega arith))
 
--- the index of the kind that the first draw chooses
-abbrev pub kindOf : Sight → List ℕ → ℕ → ℕ
-kindOf s w d1 = indexOf (d1 % sumOf (worthsOf s w)) (worthsOf s w)
-
 module _ (m : Machine) (span d1 d2 d3 : ℕ) where
   abbrev told-of : List ℕ → Type 0
   told-of w = toldCommand (chosen m (record { span = span; weights = w }) d1 d2 d3) ≡ commandAt (sightOf m span d2) (m .clock) span d2 d3 (kindOf (sightOf m span d2) w d1)
@@ -140,8 +132,19 @@ spelled : (l : List ℕ) (n i : ℕ) → i + n ≡ length l → drop i l ≡ spe
 spelled l zero i h = let k : length l ≤ i = omega arith in drop-of-length-le l k
 spelled l (suc n) i h = let k : i < length l = omega arith in drop-cons l i 0 k ∙ ap (λ (r : List ℕ). at l i ∷ r) (spelled l n (suc i) (omega arith))
 
-pub chosen-is : (m : Machine) (p : Profile) (d1 d2 d3 : ℕ) → length (p .weights) ≡ 8
+chosen-is : (m : Machine) (p : Profile) (d1 d2 d3 : ℕ) → length (p .weights) ≡ 8
     → toldCommand (chosen m p d1 d2 d3) ≡ commandAt (sightOf m (p .span) d2) (m .clock) (p .span) d2 d3 (kindOf (sightOf m (p .span) d2) (p .weights) d1)
 chosen-is m p d1 d2 d3 h =
     let w = p .weights in
     subst (told-of m (p .span) d1 d2 d3) (sym (spelled w 8 0 (omega arith))) (chosen-eight m (p .span) d1 d2 d3 (at w 0) (at w 1) (at w 2) (at w 3) (at w 4) (at w 5) (at w 6) (at w 7))
+
+-- The answer of a draw that is made, on the tables: the command that its three draws choose, and the third as the seed.
+pub made-read : (k : Kernel) (seed : ℕ) (p : given.Profile) → length (p .weights) ≡ 8
+    → madeIn (k .base) (k .ready) (k .held) (k .way) (k .ceiling) (k .waiter) (k .clock) seed p ≡ madeOf k p (draw seed) (draw (draw seed)) (draw (draw (draw seed)))
+unfolding view
+made-read k seed p h =
+    let d = threeFrom seed in
+    let n = p .span in
+    let e = chosen-is (view k) (profileOf p) (d .first) (d .second) (d .third) h
+    ∙ ap (λ (s : Sight). commandAt s (k .clock) n (d .second) (d .third) (kindOf s (p .weights) (d .first))) (seen k n (d .second)) in
+    ap (λ (c : Command). let r : Drawn = record { code = 0; command = c; seed = d .third } in r) (sym e)

@@ -2,13 +2,16 @@
 use Prim.Native.Nat.{ℕ, zero, suc}
 use mathlib.Core.Path.{_≡_}
 use mathlib.Core.Bool.{cond}
+use lib.Dec.{eqb}
 use Rattle.rules.specs.Machine as rules
 use Rattle.kernel.specs.declared.Kernel.{Kernel}
 use Rattle.kernel.specs.declared.command.Command.{Command}
+use Rattle.kernel.specs.declared.command.Answer.{Answer}
 use Rattle.kernel.specs.View.{view}
-use Rattle.kernel.specs.Public.{isSound, stepped}
+use Rattle.kernel.specs.Public.{isSound, stepped, runningOf}
 use Rattle.generator.specs.declared.Profile.{Profile}
 use Rattle.generator.specs.declared.Drawn.{Drawn}
+use Rattle.generator.specs.declared.Carried.{Carried}
 use Rattle.generator.specs.declared.Generator.{Generator}
 use Rattle.generator.specs.Xorshift as xorshift
 use Rattle.generator.specs.Draw as draw
@@ -38,6 +41,24 @@ drawnIn k seed p = toldDrawn (draw.drawn (view k) seed (profileOf p))
 -- A draw: 1 comes first, and a state that is not sound is answered so.
 unfoldable pub drawnOf : Kernel → ℕ → Profile → Drawn
 drawnOf k seed p = cond (isSound k) (drawnIn k seed p) (refusedOf 1 seed)
+
+-- A draw with its step. A draw that is made is a step of the kernel; a refused one leaves the state,
+abbrev pub behindDraw : Kernel → Drawn → Kernel
+behindDraw k d = cond (eqb (d .code) 0) (stepped k (d .command) .next) k
+
+-- and is answered with its code, the running task as it stands, and nobody released.
+abbrev pub unmoved : ℕ → ℕ → Answer
+unmoved code running = record { code = code; running = record { 0 = running }; released = record { 0 = 0 } }
+
+abbrev pub answerTo : Kernel → Drawn → Answer
+answerTo k d = cond (eqb (d .code) 0) (stepped k (d .command) .answer) (unmoved (d .code) (runningOf k))
+
+-- The whole of it: the state left behind, what is drawn, and the answer.
+abbrev pub carriedOf : Drawn → Answer → Carried
+carriedOf d a = record { drawn = d; answer = a }
+
+abbrev pub DrawsAndSteps : Kernel → ℕ → Profile → Carried → Kernel → Type 0
+DrawsAndSteps k seed p r left = let d = drawnOf k seed p in (left ≡ behindDraw k d) × (r ≡ carriedOf d (answerTo k d))
 
 -- n draws, each with its step: the state and the seed behind them.
 unfoldable pub drawsOf : ℕ → Kernel → ℕ → Profile → Kernel × ℕ

@@ -3,13 +3,15 @@ use Prim.Native.Nat.{ℕ, zero, suc, _+_, _-_, _%_, _^_}
 use mathlib.Core.Bool.{Bool, cond, not, _&&_}
 use mathlib.Core.List.{List, [], _∷_}
 use lib.Dec.{eqb, leb, ltb}
-use lib.ListN.{getD}
-use Rattle.rules.specs.Line.{at, count, empty}
-use Rattle.rules.specs.Machine.{Machine, for-open, for-entry}
+use lib.ListN.{getD, length}
+use Rattle.rules.specs.Line.{at, count}
 use Rattle.kernel.specs.declared.command.Command.{Command}
 use Rattle.generator.specs.declared.Profile.{Profile}
+use Rattle.generator.specs.declared.Drawn.{Drawn}
 use Rattle.generator.specs.declared.Sight.{Sight}
-use Rattle.generator.specs.Menu.{free-runner, inside, hand, eligibles, pick, span-fits}
+use Rattle.generator.specs.declared.Three.{Three}
+use Rattle.generator.specs.Xorshift.{draw}
+use Rattle.generator.specs.Menu.{sift, objects}
 use Rattle.generator.specs.Draw.{good-profile}
 use Rattle.generator.specs.Public.{profileOf}
 
@@ -22,19 +24,31 @@ unfoldable pub upward : ℕ → ℕ → List ℕ
 upward zero o = []
 upward (suc n) o = o ∷ upward n (suc o)
 
--- What a draw looks at.
-unfoldable pub sightOf : Machine → ℕ → ℕ → Sight
-sightOf m span d2 =
+-- those of the runner, which stands first in the table of the ready line
+abbrev pub eligiblesIn : List ℕ → List ℕ → List ℕ → List ℕ → List ℕ
+eligiblesIn base ready held ceiling = sift (eligibleIn ceiling held (at base (at ready 0))) objects
+
+-- What a draw looks at, by the runner, the object that it holds and in which way, the count of its eligible objects and the one that is picked;
+abbrev pub seenBy : ℕ → ℕ → ℕ → ℕ → ℕ → Bool → Bool → Sight
+seenBy runner hand way count object quiet room =
     record {
-      free = free-runner m;
-      opened = inside m for-open;
-      entered = inside m for-entry;
-      hand = hand m;
-      some = not (empty (eligibles m));
-      object = pick m d2;
-      quiet = empty (getD (m .queue) (pick m d2) []);
-      room = span-fits m span;
+      free = not (eqb runner 0) && eqb hand 0;
+      opened = not (eqb hand 0) && eqb way 1;
+      entered = not (eqb hand 0) && eqb way 2;
+      hand = hand;
+      some = not (eqb count 0);
+      object = object;
+      quiet = quiet;
+      room = room;
     }
+
+-- and by the tables base, ready, held, way, ceiling, waiter and the clock, for a span and the second draw.
+unfoldable pub sightIn : List ℕ → List ℕ → List ℕ → List ℕ → List ℕ → List ℕ → ℕ → ℕ → ℕ → Sight
+sightIn base ready held way ceiling waiter clock span d2 =
+    let runner = at ready 0 in
+    let l = eligiblesIn base ready held ceiling in
+    let o = getD l (d2 % length l) 0 in
+    seenBy runner (at held runner) (at way runner) (length l) o (eqb (at waiter o) 0) (ltb (clock + span) (2 ^ 64))
 
 -- The menu's columns: what each kind weighs, and its op, a, b and value. A delay that does not fit has no time: it weighs nothing.
 unfoldable pub worthsOf : Sight → List ℕ → List ℕ
@@ -74,9 +88,28 @@ unfoldable pub indexOf : ℕ → List ℕ → ℕ
 indexOf d [] = 0
 indexOf d (w ∷ ws) = cond (ltb d w) 0 (suc (indexOf (d - w) ws))
 
+-- the index of the kind that the first draw chooses
+abbrev pub kindOf : Sight → List ℕ → ℕ → ℕ
+kindOf s w d1 = indexOf (d1 % sumOf (worthsOf s w)) (worthsOf s w)
+
 -- the command of kind i; past the last, none
 unfoldable pub commandAt : Sight → ℕ → ℕ → ℕ → ℕ → ℕ → Command
 commandAt s clock span d2 d3 i = record { op = at opsOf i; a = at (firstsOf s) i; b = at (secondsOf s d3) i; value = at (valuesOf clock span d2) i }
+
+-- three draws, one after another
+abbrev pub threeFrom : ℕ → Three
+threeFrom seed = record { first = draw seed; second = draw (draw seed); third = draw (draw (draw seed)) }
+
+-- the command that they choose, and the answer of a draw that is made
+abbrev pub pickedIn : List ℕ → List ℕ → List ℕ → List ℕ → List ℕ → List ℕ → ℕ → Profile → Three → Command
+pickedIn base ready held way ceiling waiter clock p d =
+    let s = sightIn base ready held way ceiling waiter clock (p .span) (d .second) in
+    commandAt s clock (p .span) (d .second) (d .third) (kindOf s (p .weights) (d .first))
+
+abbrev pub madeIn : List ℕ → List ℕ → List ℕ → List ℕ → List ℕ → List ℕ → ℕ → ℕ → Profile → Drawn
+madeIn base ready held way ceiling waiter clock seed p =
+    let d = threeFrom seed in
+    record { code = 0; command = pickedIn base ready held way ceiling waiter clock p d; seed = d .third }
 
 -- the checks 17, 18, 2 of a draw
 abbrev pub refusalOf : Bool → ℕ → Profile → ℕ

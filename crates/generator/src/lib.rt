@@ -1,8 +1,9 @@
 // The generator: Marsaglia's xorshift, and commands drawn by it that the kernel accepts.
 //
-// A `Generator` holds a seed that is lent and advanced where it stands: `draw_with` draws a command by it. `draw` is by value, over the same: a
-// state, a seed and a profile in; code, command and the next seed out. Every state, seed and profile gets an answer: no public function has a
-// `requires`. specs/ says what each answer is.
+// A `Generator` holds a seed that is lent, and `advance` makes a draw where it stands: all draws are made by it. A command is drawn from tables that
+// are lent (in_place, which carries it out too), and from a state by value: `draw`, and `draw_with` for a generator that is lent. Every state, seed
+// and profile gets an answer: no public function has a `requires`. specs/ says what each answer is.
+use kernel::Answer;
 use kernel::Command;
 use kernel::Kernel;
 use line::POId;
@@ -13,12 +14,13 @@ ghost use mathlib.Core.Bool.{cond};
 ghost use lib.Dec.{leb, ltb};
 ghost use lib.ListN.{length, getD};
 ghost use Rattle.rules.specs.Line.{at, every};
-ghost use Rattle.kernel.specs.View.{view};
 ghost use Rattle.generator.specs.Xorshift as xorshift;
 ghost use Rattle.generator.specs.Menu.{sift, objects};
 ghost use Rattle.generator.specs.Draw as draws;
 ghost use Rattle.generator.specs.Public as public;
 ghost use Rattle.generator.specs.Tables as tables;
+
+pub mod in_place;
 
 // A span and eight weights, in op order 4..11: delay, wake, advance, open, closep, closef, entry, done.
 pub struct Profile {
@@ -31,6 +33,12 @@ pub struct Drawn {
     pub code: u8,
     pub command: Command,
     pub seed: u32,
+}
+
+// A draw and its step: what is drawn, and what the kernel answers to it.
+pub struct Carried {
+    pub drawn: Drawn,
+    pub answer: Answer,
 }
 
 // ---- Numbers
@@ -133,21 +141,25 @@ fn has_room(clock: u64, span: u32) -> bool
 }
 
 // A way of 1 is that of an open, 2 of an entry.
-fn look(k: Kernel, span: u32, d2: u32) -> Sight
-    ensures { λ r. ⌜ r ≡ tables.sightOf (view k) span d2 ⌝ }
+fn look(
+    base: &[u8; 32],
+    ready: &[u8; 32],
+    held: &[u8; 32],
+    way: &[u8; 32],
+    ceiling: [u8; 8],
+    waiter: [u8; 8],
+    clock: u64,
+    span: u32,
+    d2: u32,
+) -> Sight
+    ensures { λ r. ⌜ r ≡ tables.sightIn (now (base .entry)) (now (ready .entry)) (now (held .entry)) (now (way .entry)) ceiling waiter clock span d2 ⌝ }
 {
-    let ready = k.ready;
-    let base = k.base;
-    let held = k.held;
-    let way = k.way;
-    let ceiling = k.ceiling;
-    let waiter = k.waiter;
     let runner = ready[0];
-    let level = line::of_task(&base, TaskID(runner));
-    let hand = line::of_task(&held, TaskID(runner));
-    let how = line::of_task(&way, TaskID(runner));
-    let count = count_eligible(ceiling, &held, level);
-    let object = nth_eligible(ceiling, &held, level, rest(wide(d2), count));
+    let level = line::of_task(base, TaskID(runner));
+    let hand = line::of_task(held, TaskID(runner));
+    let how = line::of_task(way, TaskID(runner));
+    let count = count_eligible(ceiling, held, level);
+    let object = nth_eligible(ceiling, held, level, rest(wide(d2), count));
     Sight {
         free: !(runner == 0) & (hand == 0),
         opened: !(hand == 0) & (how == 1),
@@ -156,7 +168,7 @@ fn look(k: Kernel, span: u32, d2: u32) -> Sight
         some: !(count == 0),
         object,
         quiet: line::of_object(waiter, POId(object)) == 0,
-        room: has_room(k.clock, span),
+        room: has_room(clock, span),
     }
 }
 
@@ -282,14 +294,34 @@ fn command_for(i: u8, s: Sight, clock: u64, span: u32, d2: u32, d3: u32) -> Comm
 }
 
 // The command of the kind that the first draw chooses.
-fn pick_command(k: Kernel, p: Profile, d1: u32, d2: u32, d3: u32) -> Command
-    ensures { λ r. ⌜ r ≡ public.toldCommand (draws.chosen (view k) (public.profileOf p) d1 d2 d3) ⌝ }
+fn pick_command(
+    base: &[u8; 32],
+    ready: &[u8; 32],
+    held: &[u8; 32],
+    way: &[u8; 32],
+    ceiling: [u8; 8],
+    waiter: [u8; 8],
+    clock: u64,
+    p: Profile,
+    d: Three,
+) -> Command
+    ensures { λ r. ⌜ r ≡ tables.pickedIn (now (base .entry)) (now (ready .entry)) (now (held .entry)) (now (way .entry)) ceiling waiter clock p d ⌝ }
 {
     let weights = p.weights;
-    let s = look(k, p.span, d2);
+    let s = look(
+        base,
+        ready,
+        held,
+        way,
+        ceiling,
+        waiter,
+        clock,
+        p.span,
+        d.second,
+    );
     let w = worths(s, weights);
-    let i = kind_for(rest(wide(d1), sum(w)), w);
-    command_for(i, s, k.clock, p.span, d2, d3)
+    let i = kind_for(rest(wide(d.first), sum(w)), w);
+    command_for(i, s, clock, p.span, d.second, d.third)
 }
 
 // ---- The refusals of a draw
@@ -342,27 +374,6 @@ fn refused(code: u8, seed: u32) -> Drawn
     }
 }
 
-// The number of a draw's first check that holds, in document 01's order 1, 17, 18, 2; 0 for none.
-fn code_of(k: Kernel, seed: u32, p: Profile) -> u8
-    ensures { λ r. ⌜ r ≡ public.drawnOf k seed p .code ⌝ }
-{
-    let code = refusal(k.started, seed, p);
-    let sound = k.sound();
-    line::choose(!sound, 1, code)
-}
-
-// The answer of a draw that is made: the command that its three draws choose, and the third as the seed.
-fn made(k: Kernel, p: Profile, d1: u32, d2: u32, d3: u32) -> Drawn
-    ensures { λ r. ⌜ r ≡ public.madeOf k p d1 d2 d3 ⌝ }
-{
-    let command = pick_command(k, p, d1, d2, d3);
-    Drawn {
-        code: 0,
-        command,
-        seed: d3,
-    }
-}
-
 // ---- The generator, lent
 
 // A seed that is lent, and advanced where it stands.
@@ -379,25 +390,55 @@ pub fn advance(g: &mut Generator) -> u32
     x
 }
 
-// A command is drawn. Three draws are made for it where the seed stands, used or not; none, where it is refused.
-pub fn draw_with(g: &mut Generator, k: Kernel, p: Profile) -> Drawn
-    ensures { λ r. ⌜ public.DrawsWith (now (g .entry)) k p r (now (g .exit)) ⌝ }
-{
-    let seed = g.seed;
-    let code = code_of(k, seed, p);
-    if code != 0 {
-        return refused(code, seed);
-    }
-    let d1 = advance(&mut *g);
-    let d2 = advance(&mut *g);
-    let d3 = advance(&mut *g);
-    made(k, p, d1, d2, d3)
+// The three draws of a command.
+struct Three {
+    first: u32,
+    second: u32,
+    third: u32,
 }
 
-// A draw by value: a generator with that seed is lent for one draw, and the seed that it is left with is the answer's.
+// They are made one after another, used or not, by a generator with that seed.
+fn three_draws(seed: u32) -> Three
+    ensures { λ r. ⌜ r ≡ tables.threeFrom seed ⌝ }
+{
+    let mut g = Generator { seed };
+    let first = advance(&mut g);
+    let second = advance(&mut g);
+    let third = advance(&mut g);
+    Three {
+        first,
+        second,
+        third,
+    }
+}
+
+// ---- A draw from a state by value
+
+// A state, a seed and a profile in; code, command and the next seed out.
 pub fn draw(k: Kernel, seed: u32, p: Profile) -> Drawn
     ensures { λ r. ⌜ r ≡ public.drawnOf k seed p ⌝ }
 {
-    let mut g = Generator { seed };
-    draw_with(&mut g, k, p)
+    in_place::draw(
+        &k.base,
+        &k.ready,
+        &k.delayed,
+        &k.held,
+        &k.way,
+        &k.until,
+        k.ceiling,
+        k.waiter,
+        k.clock,
+        k.started,
+        seed,
+        p,
+    )
+}
+
+// The same with a generator that is lent: it is left with the answer's seed.
+pub fn draw_with(g: &mut Generator, k: Kernel, p: Profile) -> Drawn
+    ensures { λ r. ⌜ public.DrawsWith (now (g .entry)) k p r (now (g .exit)) ⌝ }
+{
+    let d = draw(k, g.seed, p);
+    g.seed = d.seed;
+    d
 }

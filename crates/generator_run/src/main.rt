@@ -1,17 +1,24 @@
 // A run is a seed: 100,000 draws with their steps, from eight tasks and five objects. Each line tells how far it is, the running task, the clock
 // and the seed, and a number that changes with any command and any answer on the way.
+use generator::Carried;
 use generator::Profile;
+use kernel::Answer;
 use kernel::Command;
 use kernel::Kernel;
 
 const OUT: i32 = libc::STDOUT_FILENO;
 
-// Where a run stands.
+// What is told of a run.
 struct Course {
-    k: Kernel,
     seed: u32,
     running: u8,
     sum: u64,
+}
+
+// A run that is being set up, with its state.
+struct Setup {
+    k: Kernel,
+    at: Course,
 }
 
 fn mixed(sum: u64, x: u64) -> u64 {
@@ -29,59 +36,37 @@ fn told(sum: u64, c: Command, code: u8, running: u8, released: u8) -> u64 {
     )
 }
 
-fn stepped(r: Course, c: Command) -> Course {
-    let k = r.k;
-    let s = k.step(c);
-    let next = s.next;
-    let a = s.answer;
+fn behind(r: Course, c: Command, a: Answer) -> Course {
     let running = a.running;
     let released = a.released;
     Course {
-        k: next,
         seed: r.seed,
         running: running.0,
         sum: told(r.sum, c, a.code, running.0, released.0),
     }
 }
 
-// A draw with its step. The code of the draw goes into the sum as well.
-fn drawn(r: Course, p: Profile) -> Course {
-    let k = r.k;
-    let d = generator::draw(k, r.seed, p);
-    let c = d.command;
-    let sum = mixed(r.sum, d.code as u64);
-    stepped(
-        Course {
-            k,
-            seed: d.seed,
-            running: r.running,
-            sum,
-        },
-        c,
-    )
-}
-
-fn draws(r: Course, p: Profile, n: u64) -> Course {
-    let mut at = r;
-    let mut i: u64 = 0;
-    while i < n {
-        at = drawn(at, p);
-        i += 1;
+fn asked(s: Setup, op: u8, a: u8, b: u8) -> Setup {
+    let c = Command { op, a, b, value: 0 };
+    let k = s.k;
+    let t = k.step(c);
+    let next = t.next;
+    Setup {
+        k: next,
+        at: behind(s.at, c, t.answer),
     }
-    at
-}
-
-fn asked(r: Course, op: u8, a: u8, b: u8) -> Course {
-    stepped(r, Command { op, a, b, value: 0 })
 }
 
 // Eight tasks, five objects, and the start.
-fn begun(seed: u32) -> Course {
-    let new = Course {
-        k: Kernel::fresh(),
+fn begun(seed: u32) -> Setup {
+    let at = Course {
         seed,
         running: 0,
         sum: 0,
+    };
+    let new = Setup {
+        k: Kernel::fresh(),
+        at,
     };
     let a = asked(asked(asked(asked(new, 1, 1, 3), 1, 2, 5), 1, 3, 3), 1, 4, 9);
     let b = asked(asked(asked(asked(a, 1, 5, 1), 1, 6, 15), 1, 7, 7), 1, 31, 5);
@@ -89,19 +74,73 @@ fn begun(seed: u32) -> Course {
     asked(asked(asked(c, 2, 4, 5), 2, 7, 12), 3, 0, 0)
 }
 
+// A draw with its step. The code of the draw goes into the sum as well.
+fn drawn(r: Course, x: Carried) -> Course {
+    let d = x.drawn;
+    let sum = mixed(r.sum, d.code as u64);
+    let at = Course {
+        seed: d.seed,
+        running: r.running,
+        sum,
+    };
+    behind(at, d.command, x.answer)
+}
+
 fn number(x: u64) {
     io::write_all(OUT, b" ");
     io::print_decimal(OUT, x);
 }
 
-fn show(n: u64, r: Course) {
-    let k = r.k;
+fn show(n: u64, clock: u64, r: Course) {
     io::print_decimal(OUT, n);
     number(r.running as u64);
-    number(k.clock);
+    number(clock);
     number(r.seed as u64);
     number(r.sum);
     io::write_all(OUT, b"\n");
+}
+
+// A line for each 10,000 draws.
+fn show_some(n: u64, clock: u64, r: Course) {
+    if n % 10000 == 0 {
+        show(n, clock, r);
+    }
+}
+
+// The state's tables stand in locals, and each draw is carried out there.
+fn run(s: Setup, p: Profile) {
+    let k = s.k;
+    let mut base = k.base;
+    let mut ready = k.ready;
+    let mut delayed = k.delayed;
+    let mut held = k.held;
+    let mut way = k.way;
+    let mut until = k.until;
+    let mut ceiling = k.ceiling;
+    let mut waiter = k.waiter;
+    let mut clock = k.clock;
+    let mut started = k.started;
+    let mut at = s.at;
+    let mut n: u64 = 0;
+    while n < 100000 {
+        let x = generator::in_place::draw_and_step(
+            &mut base,
+            &mut ready,
+            &mut delayed,
+            &mut held,
+            &mut way,
+            &mut until,
+            &mut ceiling,
+            &mut waiter,
+            &mut clock,
+            &mut started,
+            at.seed,
+            p,
+        );
+        at = drawn(at, x);
+        n += 1;
+        show_some(n, clock, at);
+    }
 }
 
 fn main() {
@@ -109,13 +148,9 @@ fn main() {
         span: 1000,
         weights: [10, 30, 20, 10, 10, 10, 20, 10],
     };
-    let mut at = begun(1);
+    let s = begun(1);
+    let k = s.k;
     io::write_all(OUT, b"draws running clock seed sum\n");
-    show(0, at);
-    let mut n: u64 = 0;
-    while n < 100000 {
-        n += 10000;
-        at = draws(at, p, 10000);
-        show(n, at);
-    }
+    show(0, k.clock, s.at);
+    run(s, p);
 }

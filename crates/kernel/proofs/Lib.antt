@@ -12,5 +12,4 @@ pub mod Passed
 pub mod Tested
 pub mod Question
 pub mod Ends
-pub mod Meets
 pub mod Single

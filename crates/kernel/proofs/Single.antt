@@ -18,6 +18,7 @@ use Rattle.kernel.proofs.Kernel.sound
 use Rattle.kernel.proofs.Kernel.step
 use Rattle.kernel.proofs.Kernel.step_trusting as step-trusting
 use Rattle.kernel.proofs.Kernel.wakes_left
+use Rattle.kernel.proofs.in_place.sound as in-place-sound
 use Rattle.kernel.proofs.in_place.step as in-place-step
 use Rattle.kernel.proofs.in_place.step_trusting as in-place-step-trusting
 
@@ -36,6 +37,9 @@ module _ {M : Type 1} (𝓤 : URA M) (H : Heap 𝓤) (A : Atoms 𝓤) (mem : Mem
 
   pub wakes-left-single : OneAnswer 𝓤 wakes_left.ended (wakes_left.clauses 𝓤 H A mem run)
   wakes-left-single κs a g r s d e = one 𝓤 _ _ _
+
+  pub in-place-sound-single : OneAnswer 𝓤 in-place-sound.ended (in-place-sound.clauses 𝓤 H A mem run)
+  in-place-sound-single κs a g r s d e = one 𝓤 _ _ _
 
   pub in-place-step-single : OneEnd 𝓤 in-place-step.ended (in-place-step.clauses 𝓤 H A mem run) (Kernel × Answer) (λ κs r e. (tables (now (e .0)) (now (e .1 .0)) (now (e .1 .1 .0)) (now (e .1 .1 .1 .0)) (now (e .1 .1 .1 .1 .0)) (now (e .1 .1 .1 .1 .1 .0)) (now (e .1 .1 .1 .1 .1 .1 .0)) (now (e .1 .1 .1 .1 .1 .1 .1 .0)) (now (e .1 .1 .1 .1 .1 .1 .1 .1 .0)) (now (e .1 .1 .1 .1 .1 .1 .1 .1 .1 .0)), r))
   in-place-step-single κs a g r s d e = both 𝓤 _ _ _ each-of-two

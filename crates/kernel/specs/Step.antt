@@ -12,7 +12,6 @@ use Rattle.line.specs.Tables.{place, pop, lower, later, more, with-time, time-i
 use Rattle.kernel.specs.declared.Kernel.{Kernel}
 use Rattle.kernel.specs.declared.Stepped.{Stepped}
 use Rattle.kernel.specs.declared.command.Answer.{Answer}
-use Rattle.kernel.specs.Test.{testOf}
 
 -- ---- the tables that are lent, as the state that they are
 abbrev pub tables : List ℕ → List ℕ → List ℕ → List ℕ → List ℕ → List ℕ → List ℕ → List ℕ → ℕ → Bool → Kernel
@@ -197,10 +196,6 @@ refused n x = record { code = n; running = record { 0 = x }; released = record {
 -- the step without the test (of a sound state it is stepOf: proofs/Whole, step-meets)
 unfoldable pub steppedOf : Kernel → Command → Stepped
 steppedOf k c = cond (eqb (refusal-on k c) 0) (carriedOf k c) (record { next = k; answer = refused (refusal-on k c) (cond (k .started) (first k) 0) })
-
--- the step with the test: tables that fail it are answered 1, 0, 0 and stay as they are
-unfoldable pub testedOf : Kernel → Command → Stepped
-testedOf k c = cond (testOf k) (steppedOf k c) (record { next = k; answer = refused 1 0 })
 
 -- ---- the question
 abbrev pub dueCount : ℕ → ℕ → ℕ → ℕ

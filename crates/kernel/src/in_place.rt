@@ -1,10 +1,10 @@
-// The step on lent tables: an accepted command is carried out where they lie, a refused one leaves them as they are.
+// The step and the test on lent tables: an accepted command is carried out where they lie, a refused one leaves them as they are.
 // (What each op does to them: crate ops. When it is refused: refusals.)
 ghost use Prim.Native.Nat.{ℕ, _<_, _^_};
 ghost use mathlib.Core.Path.{_≡_};
 ghost use lib.ListN.{length};
 ghost use Rattle.rules.specs.Line.{at};
-ghost use Rattle.kernel.specs.Public.{said, stepOf};
+ghost use Rattle.kernel.specs.Public.{said, isSound, stepOf};
 ghost use Rattle.kernel.specs.Step as step;
 ghost use Rattle.kernel.specs.Step.{tables};
 use crate::command::Answer;
@@ -141,20 +141,46 @@ fn sized(
     held: &[u8; 32],
     way: &[u8; 32],
     until: &[u64; 32],
-    ceiling: &[u8; 8],
-    waiter: &[u8; 8],
 )
-    ensures { λ _. ⌜ (length (now (base .entry)) ≡ 32) × (length (now (ready .entry)) ≡ 32) × (length (now (delayed .entry)) ≡ 32) × (length (now (held .entry)) ≡ 32) × (length (now (way .entry)) ≡ 32) × (length (now (until .entry)) ≡ 32) × (length (now (ceiling .entry)) ≡ 8) × (length (now (waiter .entry)) ≡ 8) × ((t : ℕ) → at (now (until .entry)) t < 2 ^ 64) ⌝ }
+    ensures { λ _. ⌜ (length (now (base .entry)) ≡ 32) × (length (now (ready .entry)) ≡ 32) × (length (now (delayed .entry)) ≡ 32) × (length (now (held .entry)) ≡ 32) × (length (now (way .entry)) ≡ 32) × (length (now (until .entry)) ≡ 32) × ((t : ℕ) → at (now (until .entry)) t < 2 ^ 64) ⌝ }
 {
     let bases: &[u8] = base;
     let readies: &[u8] = ready;
     let sleepers: &[u8] = delayed;
     let hands: &[u8] = held;
     let ways: &[u8] = way;
-    let tops: &[u8] = ceiling;
-    let waits: &[u8] = waiter;
     let times: &[u64] = until;
     let first = times[0];
+}
+
+// The test of a saved state: document 01's conditions hold, and every unused cell is 0.
+pub fn sound<'a>(
+    base: &'a [u8; 32],
+    ready: &'a [u8; 32],
+    delayed: &'a [u8; 32],
+    held: &'a [u8; 32],
+    way: &'a [u8; 32],
+    until: &'a [u64; 32],
+    ceiling: [u8; 8],
+    waiter: [u8; 8],
+    clock: u64,
+    started: bool,
+) -> bool
+    ensures { λ r. ⌜ r ≡ isSound (tables (now (base .entry)) (now (ready .entry)) (now (delayed .entry)) (now (held .entry)) (now (way .entry)) (now (until .entry)) ceiling waiter clock started) ⌝ }
+{
+    sized(base, ready, delayed, held, way, until);
+    soundness::tested(
+        base,
+        ready,
+        delayed,
+        held,
+        way,
+        until,
+        ceiling,
+        waiter,
+        clock,
+        started,
+    )
 }
 
 // The step: tables that are not those of a sound state are answered 1, 0, 0 and stay as they are.
@@ -173,10 +199,9 @@ pub fn step(
 ) -> Answer
     ensures { λ r. ⌜ (tables (now (base .exit)) (now (ready .exit)) (now (delayed .exit)) (now (held .exit)) (now (way .exit)) (now (until .exit)) (now (ceiling .exit)) (now (waiter .exit)) (now (clock .exit)) (now (started .exit)) ≡ (stepOf (tables (now (base .entry)) (now (ready .entry)) (now (delayed .entry)) (now (held .entry)) (now (way .entry)) (now (until .entry)) (now (ceiling .entry)) (now (waiter .entry)) (now (clock .entry)) (now (started .entry))) (said c)) .next) × (r ≡ (stepOf (tables (now (base .entry)) (now (ready .entry)) (now (delayed .entry)) (now (held .entry)) (now (way .entry)) (now (until .entry)) (now (ceiling .entry)) (now (waiter .entry)) (now (clock .entry)) (now (started .entry))) (said c)) .answer) ⌝ }
 {
-    sized(base, ready, delayed, held, way, until, ceiling, waiter);
     let tops = *ceiling;
     let waits = *waiter;
-    if !soundness::tested(
+    if !sound(
         base,
         ready,
         delayed,

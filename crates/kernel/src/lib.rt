@@ -1,5 +1,5 @@
-// The kernel by value: its tables, the step, and the question "Wakes left". (The test of a saved state: crate soundness. A step takes the tables into locals and
-// lends them: in_place.)
+// The kernel by value: its tables, the step, and the question "Wakes left". (The test of a saved state and
+// a step lend the tables: in_place.)
 ghost use mathlib.Core.Path.{_≡_};
 ghost use Rattle.rules.specs.Machine.{fresh};
 ghost use Rattle.kernel.specs.View.{encode};
@@ -78,7 +78,7 @@ impl Kernel {
     pub fn sound(self) -> bool
         ensures { λ r. ⌜ r ≡ isSound self ⌝ }
     {
-        soundness::tested(
+        in_place::sound(
             &self.base,
             &self.ready,
             &self.delayed,

@@ -1,13 +1,17 @@
--- `generator::look` meets its contract, by what its callees ensure of the tables, and `seen` that ties these to the machine. Assumes nothing.
-use mathlib.Core.Path.{sym}
-use Rattle.kernel.specs.View.{view}
-use Rattle.generator.proofs.Tied.{seen}
+-- `generator::look` meets its contract, by what its callees ensure of the tables. Assumes nothing.
+use Prim.Native.Nat.{ℕ, _+_, _%_, _^_}
+use mathlib.Core.Path.{_≡_, refl}
+use mathlib.Core.List.{List}
+use lib.Dec.{eqb, ltb}
+use lib.ListN.{getD, length}
+use Rattle.rules.specs.Line.{at}
+use Rattle.generator.specs.Tables.{eligiblesIn, seenBy, sightIn}
 use borrow.Author.Needs.{needs}
 use Rattle.generator.proofs.look.Statement.{statement}
 use Rattle.generator.proofs.look.Tie as tie
 
-array-read-runner : tie.Need-array-read-runner
-array-read-runner c = search needs
+element-copy-out-runner : tie.Need-element-copy-out-runner
+element-copy-out-runner c = search needs
 
 of-task-requires : tie.Need-of-task-requires
 of-task-requires c κs = search needs
@@ -36,28 +40,35 @@ of-object-requires c κs = search needs
 has-room-requires : tie.Need-has-room-requires
 has-room-requires c κs = search needs
 
+spelled : (base ready held way ceiling waiter : List ℕ) (clock span d2 : ℕ)
+    → let l = eligiblesIn base ready held ceiling in
+    let o = getD l (d2 % length l) 0 in
+    seenBy (at ready 0) (at held (at ready 0)) (at way (at ready 0)) (length l) o (eqb (at waiter o) 0) (ltb (clock + span) (2 ^ 64))
+    ≡ sightIn base ready held way ceiling waiter clock span d2
+unfolding sightIn
+spelled base ready held way ceiling waiter clock span d2 = refl
+
 returns : tie.Need-returns
-unfolding view
 returns c =
-    let a = c .before .before .before .before .before .before .before .before .before .before .before .before .before .before .before .before .before .before .before .before .args in
+    let a = c .before .before .before .before .before .before .before .before .before .before .args in
     rw (
       c .has-room .ensures,
       c .before .of-object .ensures,
       c .before .before .nth-eligible .ensures,
       c .before .before .before .rest .ensures,
       c .before .before .before .before .wide .ensures .0,
-      c .before .before .before .before .before .before .count-eligible .ensures,
-      c .before .before .before .before .before .before .before .before .of-task3 .ensures,
-      c .before .before .before .before .before .before .before .before .before .before .of-task2 .ensures,
-      c .before .before .before .before .before .before .before .before .before .before .before .before .of-task .ensures,
+      c .before .before .before .before .before .count-eligible .ensures,
+      c .before .before .before .before .before .before .of-task3 .ensures,
+      c .before .before .before .before .before .before .before .of-task2 .ensures,
+      c .before .before .before .before .before .before .before .before .of-task .ensures,
     )
-    (sym (seen (a .k) (a .span) (a .d2)))
+    (spelled (a .base .now) (a .ready .now) (a .held .now) (a .way .now) (a .ceiling) (a .waiter) (a .clock) (a .span) (a .d2))
 
 pub look-spec : {M : Type 1} → statement M
 look-spec =
     tie.close
     (tie.spec
-    array-read-runner
+    element-copy-out-runner
     of-task-requires
     of-task-requires-2
     of-task-requires-3

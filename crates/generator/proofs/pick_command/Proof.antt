@@ -1,9 +1,4 @@
--- `generator::pick_command` meets its contract, by what its callees ensure, and `chosen-is` that ties the choice by an index to the machine. Assumes nothing.
-use mathlib.Core.Path.{_≡_, sym}
-use lib.ListN.{length}
-use Rattle.kernel.specs.View.{view}
-use Rattle.generator.specs.Public.{profileOf}
-use Rattle.generator.proofs.Tied.{chosen-is}
+-- `generator::pick_command` meets its contract, by what its callees ensure. Assumes nothing.
 use borrow.Author.Needs.{needs}
 use Rattle.generator.proofs.pick_command.Statement.{statement}
 use Rattle.generator.proofs.pick_command.Tie as tie
@@ -29,17 +24,17 @@ kind-for-requires c κs = search needs
 command-for-requires : tie.Need-command-for-requires
 command-for-requires c κs = search needs
 
-eight : (c : tie.Start) → length (c .args .p .weights) ≡ 8
-eight c = search needs
-
 returns : tie.Need-returns
-unfolding view
 returns c =
-    let a = c .before .before .before .before .before .before .before .before .args in
-    let n = eight (c .before .before .before .before .before .before .before .before) in
-    rw
-    (c .command-for .ensures, c .before .kind-for .ensures, c .before .before .rest .ensures, c .before .before .before .sum .ensures, c .before .before .before .before .wide .ensures .0, c .before .before .before .before .before .worths .ensures, c .before .before .before .before .before .before .look .ensures)
-    (sym (chosen-is (view (a .k)) (profileOf (a .p)) (a .d1) (a .d2) (a .d3) n))
+    rw (
+      c .command-for .ensures,
+      c .before .kind-for .ensures,
+      c .before .before .rest .ensures,
+      c .before .before .before .sum .ensures,
+      c .before .before .before .before .wide .ensures .0,
+      c .before .before .before .before .before .worths .ensures,
+      c .before .before .before .before .before .before .look .ensures,
+    )
 
 pub pick-command-spec : {M : Type 1} → statement M
 pick-command-spec =

@@ -8,7 +8,7 @@ slice-read c = search needs
 
 returns : tie.Need-returns
 returns c =
-    let w = c .before .before .before .before in
+    let w = c .before .before in
     let d = w .before .before in (
       d .before .before .bases .given .0,
       d .before .readies .given .0,
@@ -16,8 +16,6 @@ returns c =
       w .before .hands .given .0,
       w .ways .given .0,
       c .before .times .given .0,
-      c .before .before .before .tops .given .0,
-      c .before .before .waits .given .0,
       λ t. c .shared-slice-known .given t .fits,
     )
 
