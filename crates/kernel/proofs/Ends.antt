@@ -1,35 +1,49 @@
 -- The two ends of a step on tables: refused, with the number that the code found; or accepted, and carried out. Assumes nothing.
 use Prim.Native.Nat.{ℕ}
-use mathlib.Core.Path.{_≡_, ap, sym}
+use mathlib.Core.Path.{_≡_, refl, _∙_}
 use mathlib.Core.Logic.{_≢_}
-use mathlib.Core.Bool.{Bool, cond}
-use mathlib.Core.List.{List}
+use mathlib.Core.Bool.{cond}
 use borrow.Author.Tests.{eq-eqb, ne-eqb}
-use Rattle.rules.specs.Machine.{Command}
+use Rattle.rules.specs.declared.Kind.{Kind}
+use Rattle.rules.specs.declared.Kind.the-variants.{NoKind, Creating, Declaring, Starting, Delaying, Waking, Advancing, Opening, Entering, Ending}
+use Rattle.rules.specs.Machine.{Machine, Command}
+use Rattle.rules.specs.Kinds.{kind}
+use Rattle.rules.specs.Refusals.{refusal}
+use Rattle.checks.specs.Shown.{shown, refusal-as}
 use Rattle.kernel.specs.declared.Kernel.{Kernel}
-use Rattle.kernel.specs.Step.{first, refused, refusal-on, refusal-formed, caseOn, carriedOf, steppedOf}
+use Rattle.kernel.specs.View.{view}
+use Rattle.kernel.specs.Step.{first, refused, carriedAs, steppedOf}
 
-module _ (k : Kernel) (c : Command) (n : ℕ) (e : n ≡ refusal-on k c) where
+-- what the checks are shown of the tables
+abbrev pub shown-of : Kernel → Machine
+shown-of k = shown (k .base) (k .ready) (k .held) (k .way) (k .ceiling) (k .waiter) (k .clock) (k .started)
+
+-- No check looks at the delay line, so what is shown is as good as the whole machine.
+same-checks : (j : Kind) (k : Kernel) (c : Command) → refusal-as j (shown-of k) c ≡ refusal-as j (view k) c
+unfolding view refusal-as
+same-checks NoKind k c = refl
+same-checks Creating k c = refl
+same-checks Declaring k c = refl
+same-checks Starting k c = refl
+same-checks Delaying k c = refl
+same-checks Waking k c = refl
+same-checks Advancing k c = refl
+same-checks Opening k c = refl
+same-checks Entering k c = refl
+same-checks (Ending e) k c = refl
+
+whole : (k : Kernel) (c : Command) → refusal-as (kind c) (view k) c ≡ refusal (view k) c
+unfolding refusal refusal-as
+whole k c = refl
+
+module _ (k : Kernel) (c : Command) (n : ℕ) (e : n ≡ refusal-as (kind c) (shown-of k) c) where
+  found : n ≡ refusal (view k) c
+  found = e ∙ same-checks (kind c) k c ∙ whole k c
+
   pub refused-end : n ≢ 0 → record { next = k; answer = refused n (cond (k .started) (first k) 0) } ≡ steppedOf k c
   unfolding steppedOf
-  refused-end h = rw (← e, ne-eqb n 0 h)
+  refused-end h = rw (← found, ne-eqb n 0 h)
 
-  pub accepted-end : n ≡ 0 → carriedOf k c ≡ steppedOf k c
+  pub accepted-end : n ≡ 0 → carriedAs (kind c) k c ≡ steppedOf k c
   unfolding steppedOf
-  accepted-end h = rw (← e, eq-eqb n 0 h)
-
--- a command with another op
-abbrev pub with-op : Command → ℕ → Command
-with-op c n = record { op = n; a = c .a; b = c .b; value = c .value }
-
--- a command that is carried out as its op says
-pub as-op : (k : Kernel) (c : Command) (n : ℕ) → c .op ≡ n → carriedOf k (with-op c n) ≡ carriedOf k c
-as-op k c n e = ap (λ (op : ℕ). carriedOf k (with-op c op)) (sym e)
-
--- a command that is refused as its op says, over what this op looks at
-module _ (c : Command) (base ready held way ceiling waiter : List ℕ) (clock : ℕ) (started : Bool) where
-  abbrev pub checked : Command → ℕ
-  checked d = refusal-formed d (caseOn d base ready held way ceiling waiter clock started)
-
-  pub row : (n : ℕ) → c .op ≡ n → checked (with-op c n) ≡ checked c
-  row n e = ap (λ (op : ℕ). checked (with-op c op)) (sym e)
+  accepted-end h = rw (← found, eq-eqb n 0 h)

@@ -1,4 +1,3 @@
-pub mod Loops
 pub mod Padded
 pub mod Round
 pub mod Written
@@ -12,4 +11,5 @@ pub mod Passed
 pub mod Tested
 pub mod Question
 pub mod Ends
+pub mod Ways
 pub mod Single

@@ -6,29 +6,31 @@ use native.Mathlib.Omega.{arith}
 use mathlib.Core.Path.{_≡_, refl, sym, ap, _∙_, subst}
 use mathlib.Core.Logic.{_≢_}
 use mathlib.Core.List.{List, [], _∷_, map}
-use mathlib.Core.Bool.{Bool, true, false, cond, not, _&&_, _||_, true≢false, or-false, or-true, Bool·not-not}
+use mathlib.Core.Bool.{Bool, true, false, cond, not, _&&_, true≢false}
 use lib.ListN.{getD, List·getD-map}
 use lib.Dec.{eqb, leb, ltb}
-use borrow.Author.Tests.{eqb-true, ne-eqb, lt-ltb, leb-true, not-false}
-use Rattle.rules.specs.Line.{at, count, front, empty, first-alone, within}
-use Rattle.rules.specs.Machine.{Machine, Command, tasks, running}
+use borrow.Author.Tests.{eqb-true, ne-eqb, lt-ltb}
+use Rattle.rules.specs.declared.Kind.{Kind}
+use Rattle.rules.specs.declared.Kind.the-variants.{NoKind, Creating, Declaring, Starting, Delaying, Waking, Advancing, Opening, Entering, Ending}
+use Rattle.rules.specs.Line.{at, front, empty, first-alone}
+use Rattle.rules.specs.Machine.{Machine, Command, tasks, running, for-open, for-entry}
+use Rattle.rules.specs.Kinds.{kind}
 use Rattle.rules.specs.Table as T
-use Rattle.rules.specs.Table.{Out, same, take, yield, close, sleep, await, none, due, serve, moves, closing, first-due, effect, freed, freed-by, release, leave, carry}
-use Rattle.rules.specs.Refusals.{last-op, refusal, fits, operands}
+use Rattle.rules.specs.Table.{Out, same, take, yield, close, sleep, await, none, due, serve, nothing, moves, opens, closing, first-due, effect-of, effect, freed, freed-by, release, leave, carry}
+use Rattle.rules.specs.Refusals.{refusal}
 use Rattle.rules.specs.Run.{next, released, answer}
-use Rattle.rules.proofs.Words.{All, cmd}
-use Rattle.rules.proofs.Tests.{both-true}
+use Rattle.rules.proofs.Words.{All}
 use Rattle.rules.proofs.Sounds.{Sound}
 use Rattle.rules.proofs.Kept.{AllowedOut, release-sound}
-use Rattle.rules.proofs.Accepted.{check-passed, allowed}
+use Rattle.rules.proofs.Accepted.{Allowed, allowed}
 use Rattle.line.specs.Tables.{time-in}
 use Rattle.kernel.specs.declared.Kernel.{Kernel}
 use Rattle.kernel.specs.declared.Stepped.{Stepped}
 use Rattle.kernel.specs.View.{encode, view, times, pad}
 use Rattle.kernel.specs.Public.{isSound, report, stepOf}
-use Rattle.kernel.specs.Step.{first, answered, dueOf, wakeOf, closingOf, carriedOf, refusalOf, refusal-on, refused, refusal-formed, steppedOf, advancedOf, wokenOf, closedOf, servedOf, sleptOf, yieldedOf, heldOf, awaitingOf}
+use Rattle.kernel.specs.Step.{first, answered, dueOf, wakeOf, closingOf, carriedAs, refused, steppedOf, advancedOf, wokenOf, closedOf, servedOf, sleptOf, yieldedOf, heldOf, awaitingOf}
 use Rattle.kernel.proofs.Padded.{front-pad, Right, own-right}
-use Rattle.kernel.proofs.Round.{waiting-tasks, delayed-tasks, sound-own}
+use Rattle.kernel.proofs.Round.{waiting-tasks, delayed-tasks, sound-own, view-encode}
 use Rattle.kernel.proofs.Written.{stands, step-on}
 use Rattle.kernel.proofs.Rows.{create-tie, declare-tie, begin-tie, yield-tie, sleep-tie, advance-tie, take-tie, close-tie, await-tie, woken-tie, served-tie, nobody-served}
 
@@ -45,53 +47,11 @@ pub answered-report : (n : Machine) (t : ℕ) → answered (encode n) t ≡ repo
 unfolding encode
 answered-report n t = rw (front-pad 31 (n .ready))
 
--- What a check reads of the task or object that a command names is read only where the op names one.
-guarded : (h named : Bool) → (h ≡ true → named ≡ true) → (f : ℕ → Bool) (a : ℕ) → h && f (cond named a 0) ≡ h && f a
-guarded true named e f a = rw (e refl)
-guarded false named e f a = refl
-
-names : (op n : ℕ) → eqb n 2 || within 7 last-op n ≡ true → eqb op n ≡ true → eqb op 2 || within 7 last-op op ≡ true
-names op n w e = rw (eqb-true op n e) w
-
-uses-names : (op : ℕ) → within 7 last-op op ≡ true → eqb op 2 || within 7 last-op op ≡ true
-uses-names op e = rw (e, or-true (eqb op 2))
-
-takes-names : (op : ℕ) → eqb op 7 || eqb op 10 ≡ true → eqb op 2 || within 7 last-op op ≡ true
-takes-names op = go (eqb op 7) refl
-  where
-    go : (b : Bool) → eqb op 7 ≡ b → b || eqb op 10 ≡ true → eqb op 2 || within 7 last-op op ≡ true
-    go true e t = names op 7 refl e
-    go false e t = names op 10 refl t
-
 module _ (m : Machine) (s : Sound m) where
   -- who waits on an object: the first of its queue, 0 for nobody
   waiter-tie : (o : ℕ) → at (encode m .waiter) o ≡ front 0 (getD (m .queue) o [])
   unfolding encode
   waiter-tie o = List·getD-map (front 0) (m .queue) o []
-
-  nobody : (q : List ℕ) → All (λ t. t ≢ 0) q → eqb (front 0 q) 0 ≡ empty q
-  nobody [] h = refl
-  nobody (x ∷ q) h = ne-eqb x 0 (h .0)
-
-  -- The checks over what they look at are the rules' checks.
-  pub refusal-tie : (c : Command) → refusal-on (encode m) c ≡ refusal m c
-  unfolding refusalOf refusal-formed refusal encode
-  refusal-tie c =
-      let o = eqb (c .op) 2 || within 7 last-op (c .op) in
-      let w : eqb (at (map (front 0) (m .queue)) (c .a)) 0 ≡ empty (getD (m .queue) (c .a) []) = ap (λ (x : ℕ). eqb x 0) (List·getD-map (front 0) (m .queue) (c .a) []) ∙ nobody (getD (m .queue) (c .a) []) (waiting-tasks m s (c .a)) in
-      rw (
-        guarded (eqb (c .op) 1) (eqb (c .op) 1) (λ e. e) (λ x. eqb (c .a) 0 || not (eqb (at (m .base) x) 0)) (c .a),
-        guarded (eqb (c .op) 2) o (names (c .op) 2 refl) (λ x. not (eqb (at (m .ceiling) x) 0)) (c .a),
-        guarded (within 7 last-op (c .op)) o (uses-names (c .op)) (λ x. eqb (at (m .ceiling) x) 0) (c .a),
-        front-pad 31 (m .ready),
-        guarded (eqb (c .op) 7 || eqb (c .op) 10) o (takes-names (c .op)) (λ x. ltb (at (m .ceiling) x) (at (m .base) (front 0 (m .ready)))) (c .a),
-        guarded (eqb (c .op) 7 || eqb (c .op) 10) o (takes-names (c .op)) (λ x. leb 1 (count x (m .held))) (c .a),
-        guarded (eqb (c .op) 10 && eqb (c .b) 0) o (λ e. names (c .op) 10 refl (both-true (eqb (c .op) 10) (eqb (c .b) 0) e .0)) (λ x. not (eqb (at (map (front 0) (m .queue)) x) 0)) (c .a),
-        w,
-        Bool·not-not (eqb (at (m .ceiling) (c .a)) 0),
-        or-false (eqb (c .op) 10),
-        or-false (eqb (c .op) 9),
-      )
 
 -- Wake: the first of the delay line, if it is due.
 due-of : (l : List (ℕ × ℕ)) (u : List ℕ) (now : ℕ) → All (Right u) l → All (λ x. (x < 32) × (x ≢ 0)) (tasks l)
@@ -125,10 +85,10 @@ module _ (m : Machine) (s : Sound m) (on : m .started ≡ true) where
           rw (ne-eqb t 0 (first-real (tasks (m .delay)) (delayed-tasks m s) f), later-zero (release due m), woken-tie m s t f, f)
       go false e = rw (release-none m) (advance-tie m s 0 (omega (arith, s .clock-fits)))
 
-  -- closep and done: whoever waits is served, and then the runner closes
-  pub closing-tie : (c : Command) → closingOf (encode m) (c .a) (c .b) ≡ answered (encode (carry m (closing c))) (freed-by (closing c) m)
+  -- the end of a body: whoever waits is served, where it serves, and then the runner closes
+  pub closing-tie : (c : Command) (serves : Bool) → closingOf (encode m) (c .a) (serves && opens c) ≡ answered (encode (carry m (closing serves c))) (freed-by (closing serves c) m)
   unfolding closingOf carry
-  closing-tie c = rw (waiter-tie m s (c .a)) (go (eqb (c .b) 1))
+  closing-tie c serves = rw (waiter-tie m s (c .a)) (go (serves && opens c))
     where
       served : (q : List ℕ) → getD (m .queue) (c .a) [] ≡ q → All (λ t. t ≢ 0) q
           → cond (eqb (front 0 q) 0) (closedOf (encode m) 0) (closedOf (servedOf (encode m) (c .a) (front 0 q)) (front 0 q)) ≡ answered (encode (T.later (leave close (release (serve (c .a)) m)) 0)) (front 0 (first-alone q))
@@ -159,13 +119,9 @@ module _ (m : Machine) (s : Sound m) where
   unfolding carry leave release
   advance-row n = refl
 
-  unknown : {A : Type 0} (op a b v : ℕ) → refusal m (cmd op a b v) ≡ 0 → (1 ≤ op → op ≤ last-op → ⊥) → A
-  unknown op a b v ok n =
-      let f = both-true (within 1 last-op op && fits (operands op .a) a && fits (operands op .b) b) (fits (operands op .value) v) (not-false _ (check-passed m (cmd op a b v) ok 4)) .0 in
-      let g = both-true (within 1 last-op op && fits (operands op .a) a) (fits (operands op .b) b) f .0 in
-      let h = both-true (within 1 last-op op) (fits (operands op .a) a) g .0 in
-      let k = both-true (leb 1 op) (leb op last-op) h in
-      absurd (n (leb-true _ _ (k .0)) (leb-true _ _ (k .1)))
+  nothing-row : answered (encode m) 0 ≡ answered (encode (carry m nothing)) 0
+  unfolding carry
+  nothing-row = refl
 
   delay-row : (v : ℕ) (b : Bool) → AllowedOut m (cond b (sleep v) yield) → cond b (sleptOf (encode m) v) (yieldedOf (encode m)) ≡ answered (encode (carry m (moves (cond b (sleep v) yield) none 0))) 0
   delay-row v true g = sleep-tie m s v ∙ still (sleep v) 0
@@ -175,21 +131,20 @@ module _ (m : Machine) (s : Sound m) where
   entry-row o true g = take-tie m s o 2 ∙ still (take o 2) 0
   entry-row o false g = await-tie m s o g ∙ still (await o) 0
 
-  by-op : (op a b v : ℕ) → refusal m (cmd op a b v) ≡ 0 → carriedOf (encode m) (cmd op a b v) ≡ answered (encode (carry m (effect m (cmd op a b v)))) (freed-by (effect m (cmd op a b v)) m)
-  unfolding carriedOf
-  by-op zero a b v ok = unknown 0 a b v ok (λ h k. omega arith)
-  by-op (suc zero) a b v ok = create-tie m s a b (allowed m s (cmd 1 a b v) ok)
-  by-op (suc (suc zero)) a b v ok = declare-tie m s a b
-  by-op (suc (suc (suc zero))) a b v ok = begin-tie m s
-  by-op (suc (suc (suc (suc zero)))) a b v ok = ap (λ (n : ℕ). cond (ltb n v) (sleptOf (encode m) v) (yieldedOf (encode m))) clock-tie ∙ (delay-row v (ltb (m .clock) v) (leaves (cond (ltb (m .clock) v) (sleep v) yield) (allowed m s (cmd 4 a b v) ok .leaves)))
-  by-op (suc (suc (suc (suc (suc zero))))) a b v ok = wake-tie m s (allowed m s (cmd 5 a b v) ok .on)
-  by-op (suc (suc (suc (suc (suc (suc zero)))))) a b v ok = advance-tie m s v (allowed m s (cmd 6 a b v) ok .in-time) ∙ advance-row v
-  by-op (suc (suc (suc (suc (suc (suc (suc zero))))))) a b v ok = take-tie m s a 1 ∙ still (take a 1) 0
-  by-op (suc (suc (suc (suc (suc (suc (suc (suc zero)))))))) a b v ok = closing-tie m s (allowed m s (cmd 8 a b v) ok .on) (cmd 8 a b v)
-  by-op (suc (suc (suc (suc (suc (suc (suc (suc (suc zero))))))))) a b v ok = close-tie m s 0 ∙ still close 0
-  by-op (suc (suc (suc (suc (suc (suc (suc (suc (suc (suc zero)))))))))) a b v ok = entry-row a (eqb b 1) (leaves (cond (eqb b 1) (take a 2) (await a)) (allowed m s (cmd 10 a b v) ok .leaves))
-  by-op (suc (suc (suc (suc (suc (suc (suc (suc (suc (suc (suc zero))))))))))) a b v ok = closing-tie m s (allowed m s (cmd 11 a b v) ok .on) (cmd 11 a b v)
-  by-op (suc (suc (suc (suc (suc (suc (suc (suc (suc (suc (suc (suc op)))))))))))) a b v ok = unknown (suc (suc (suc (suc (suc (suc (suc (suc (suc (suc (suc (suc op)))))))))))) a b v ok (λ h k. omega arith)
+  by-kind : (c : Command) (k : Kind) → Allowed m (effect-of k m c) → carriedAs k (encode m) c ≡ answered (encode (carry m (effect-of k m c))) (freed-by (effect-of k m c) m)
+  unfolding carriedAs
+  by-kind c NoKind g = nothing-row
+  by-kind c Creating g = create-tie m s (c .a) (c .b) g
+  by-kind c Declaring g = declare-tie m s (c .a) (c .b)
+  by-kind c Starting g = begin-tie m s
+  by-kind c Delaying g =
+      ap (λ (n : ℕ). cond (ltb n (c .value)) (sleptOf (encode m) (c .value)) (yieldedOf (encode m))) clock-tie
+      ∙ delay-row (c .value) (ltb (m .clock) (c .value)) (leaves (cond (ltb (m .clock) (c .value)) (sleep (c .value)) yield) (g .leaves))
+  by-kind c Waking g = wake-tie m s (g .on)
+  by-kind c Advancing g = advance-tie m s (c .value) (g .in-time) ∙ advance-row (c .value)
+  by-kind c Opening g = take-tie m s (c .a) for-open ∙ still (take (c .a) for-open) 0
+  by-kind c Entering g = entry-row (c .a) (eqb (c .b) 1) (leaves (cond (eqb (c .b) 1) (take (c .a) for-entry) (await (c .a))) (g .leaves))
+  by-kind c (Ending e) g = closing-tie m s (g .on) c (e .serves)
 
   running-tie : cond (encode m .started) (first (encode m)) 0 ≡ running m
   unfolding encode
@@ -198,12 +153,12 @@ module _ (m : Machine) (s : Sound m) where
   -- The step of tables that passed the test.
   pub stepped-tie : (c : Command) → steppedOf (encode m) c ≡ report (encode (next m c)) (answer m c)
   unfolding steppedOf next answer released
-  stepped-tie c = rw (refusal-tie m s c) (go (eqb (refusal m c) 0) refl)
+  stepped-tie c = rw (view-encode m s) (go (eqb (refusal m c) 0) refl)
     where
       go : (b : Bool) → eqb (refusal m c) 0 ≡ b
-          → cond b (carriedOf (encode m) c) (record { next = encode m; answer = refused (refusal m c) (cond (encode m .started) (first (encode m)) 0) })
+          → cond b (carriedAs (kind c) (encode m) c) (record { next = encode m; answer = refused (refusal m c) (cond (encode m .started) (first (encode m)) 0) })
           ≡ report (encode (cond b (carry m (effect m c)) m)) (record { code = refusal m c; running = running (cond b (carry m (effect m c)) m); released = cond b (freed-by (effect m c) m) 0 })
-      go true e = by-op (c .op) (c .a) (c .b) (c .value) (eqb-true _ _ e) ∙ (answered-report (carry m (effect m c)) (freed-by (effect m c) m) ∙ ap (λ (n : ℕ). report (encode (carry m (effect m c))) (record { code = n; running = running (carry m (effect m c)); released = freed-by (effect m c) m })) (sym (eqb-true _ _ e)))
+      go true e = by-kind c (kind c) (allowed m s c (eqb-true _ _ e)) ∙ (answered-report (carry m (effect m c)) (freed-by (effect m c) m) ∙ ap (λ (n : ℕ). report (encode (carry m (effect m c))) (record { code = n; running = running (carry m (effect m c)); released = freed-by (effect m c) m })) (sym (eqb-true _ _ e)))
       go false e = ap (λ (x : ℕ). let z : Stepped = record { next = encode m; answer = refused (refusal m c) x } in z) running-tie
 
 -- So for every sound state it is what the public contract says.

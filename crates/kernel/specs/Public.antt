@@ -9,12 +9,9 @@ use Rattle.rules.specs.Sound.{sound}
 use Rattle.kernel.specs.declared.Kernel.{Kernel}
 use Rattle.kernel.specs.declared.Stepped.{Stepped}
 use Rattle.kernel.specs.declared.Left.{Left}
-use Rattle.kernel.specs.declared.command.Command as given
+use Rattle.checks.specs.declared.Command as given
+pub use Rattle.checks.specs.Shown.{said}
 use Rattle.kernel.specs.View.{view, encode, tidy}
-
--- The command that the program's four numbers say.
-abbrev pub said : given.Command → Command
-said c = record { op = c .op; a = c .a; b = c .b; value = c .value }
 
 -- A saved state is sound: its tables are tidy, and the machine that they stand for is sound.
 unfoldable pub isSound : Kernel → Bool

@@ -1,17 +1,22 @@
 -- What the code does to the tables, op by op: the contracts of the functions inside this crate, and of the public step_trusting (steppedOf).
 -- (proofs/ ties each to the rules: of a sound state steppedOf is stepOf, Whole: step-meets. The other public contracts need none of this.)
 use Prim.Native.Nat.{ℕ, _+_, _^_}
-use mathlib.Core.Bool.{Bool, true, cond, not, _&&_, _||_}
-use mathlib.Core.List.{List, [], _∷_}
+use mathlib.Core.Bool.{Bool, true, cond, _&&_}
+use mathlib.Core.List.{List}
 use lib.Dec.{eqb, leb, ltb}
-use lib.ListN.{getD, set}
-use Rattle.rules.specs.Line.{at, count, within}
-use Rattle.rules.specs.Machine.{Command}
-use Rattle.rules.specs.Refusals.{last-op, formed, first-number}
+use lib.ListN.{set}
+use Rattle.rules.specs.declared.Kind.{Kind}
+use Rattle.rules.specs.declared.Kind.the-variants.{NoKind, Creating, Declaring, Starting, Delaying, Waking, Advancing, Opening, Entering, Ending}
+use Rattle.rules.specs.Line.{at}
+use Rattle.rules.specs.Machine.{Command, for-open, for-entry}
+use Rattle.rules.specs.Kinds.{kind}
+use Rattle.rules.specs.Table.{opens}
+use Rattle.rules.specs.Refusals.{refusal}
 use Rattle.line.specs.Tables.{place, pop, lower, later, more, with-time, time-in}
 use Rattle.kernel.specs.declared.Kernel.{Kernel}
 use Rattle.kernel.specs.declared.Stepped.{Stepped}
 use Rattle.kernel.specs.declared.command.Answer.{Answer}
+use Rattle.kernel.specs.View.{view}
 
 -- ---- the tables that are lent, as the state that they are
 abbrev pub tables : List ℕ → List ℕ → List ℕ → List ℕ → List ℕ → List ℕ → List ℕ → List ℕ → ℕ → Bool → Kernel
@@ -96,106 +101,38 @@ awaitingOf k o = answered (with-waiter k (pop (k .ready)) (set (k .waiter) o (fi
 abbrev pub dueOf : Kernel → ℕ
 dueOf k = cond (leb (time-in (k .until) (at (k .delayed) 0)) (k .clock)) (at (k .delayed) 0) 0
 
-abbrev pub waitingOf : Kernel → ℕ → ℕ → ℕ
-waitingOf k o b = cond (eqb b 1) (at (k .waiter) o) 0
+abbrev pub waitingOf : Kernel → ℕ → Bool → ℕ
+waitingOf k o serves = cond serves (at (k .waiter) o) 0
 
 unfoldable pub wakeOf : Kernel → Stepped
 wakeOf k = cond (eqb (dueOf k) 0) (advancedOf k 0) (wokenOf k (dueOf k))
 
-unfoldable pub closingOf : Kernel → ℕ → ℕ → Stepped
-closingOf k o b = cond (eqb (waitingOf k o b) 0) (closedOf k 0) (closedOf (servedOf k o (waitingOf k o b)) (waitingOf k o b))
+unfoldable pub closingOf : Kernel → ℕ → Bool → Stepped
+closingOf k o serves = cond (eqb (waitingOf k o serves) 0) (closedOf k 0) (closedOf (servedOf k o (waitingOf k o serves)) (waitingOf k o serves))
 
--- an accepted command carried out
-unfoldable pub carriedOf : Kernel → Command → Stepped
-carriedOf k c =
-    getD
-    (advancedOf k (c .value) ∷
-    createdOf k (c .a) (c .b) ∷
-    declaredOf k (c .a) (c .b) ∷
-    begunOf k ∷
-    cond (ltb (k .clock) (c .value)) (sleptOf k (c .value)) (yieldedOf k) ∷
-    wakeOf k ∷
-    advancedOf k (c .value) ∷
-    heldOf k (c .a) 1 ∷
-    closingOf k (c .a) (c .b) ∷
-    closedOf k 0 ∷
-    cond (eqb (c .b) 1) (heldOf k (c .a) 2) (awaitingOf k (c .a)) ∷
-    closingOf k (c .a) (c .b) ∷ [])
-    (c .op) (advancedOf k (c .value))
-
--- ---- the refusals: the rules' checks behind 4, over what they look at
-
--- What the tests of a command look at: the runner's cells; the base of the task that the command names; the ceiling of the object that it names, who waits on it, and how many hold it.
-pub record Case : Type 0 where
-  pub started : Bool
-  pub clock : ℕ
-  pub runner : ℕ
-  pub base : ℕ
-  pub held : ℕ
-  pub way : ℕ
-  pub named : ℕ
-  pub ceiling : ℕ
-  pub waiter : ℕ
-  pub holders : ℕ
-
-abbrev pub checksOf : Command → Case → List (Bool × ℕ)
-checksOf c s =
-    let uses = within 7 last-op (c .op) in
-    let takes = eqb (c .op) 7 || eqb (c .op) 10 in
-    let holds = eqb (s .held) (c .a) in
-    (within 4 last-op (c .op) && not (s .started), 2) ∷
-    (within 1 3 (c .op) && s .started, 3) ∷
-    (eqb (c .op) 1 && (eqb (c .a) 0 || not (eqb (s .named) 0)) || eqb (c .op) 2 && not (eqb (s .ceiling) 0), 5) ∷
-    (uses && eqb (s .ceiling) 0, 6) ∷
-    ((eqb (c .op) 4 || uses) && eqb (s .runner) 0, 7) ∷
-    ((eqb (c .op) 4 || takes) && not (eqb (s .held) 0), 8) ∷
-    ((eqb (c .op) 8 || eqb (c .op) 9) && not (holds && eqb (s .way) 1) || eqb (c .op) 11 && not (holds && eqb (s .way) 2), 9) ∷
-    (takes && ltb (s .ceiling) (s .base), 10) ∷
-    (takes && leb 1 (s .holders), 11) ∷
-    (eqb (c .op) 10 && eqb (c .b) 0 && not (eqb (s .waiter) 0), 12) ∷
-    (eqb (c .op) 6 && not (ltb (s .clock + c .value) (2 ^ 64)), 13) ∷ []
-
--- the number of the first check that holds: behind Range, and with it
-unfoldable pub refusal-formed : Command → Case → ℕ
-refusal-formed c s = first-number (checksOf c s)
-
-unfoldable pub refusalOf : Command → Case → ℕ
-refusalOf c s = cond (not (formed c)) 4 (refusal-formed c s)
-
--- the task that a command names, for create alone, and the object, for op 2 and ops 7 and up; 0 where a is none
-abbrev pub task-named : Command → ℕ
-task-named c = cond (eqb (c .op) 1) (c .a) 0
-
-abbrev pub object-named : Command → ℕ
-object-named c = cond (eqb (c .op) 2 || within 7 last-op (c .op)) (c .a) 0
-
-abbrev pub caseOn : Command → List ℕ → List ℕ → List ℕ → List ℕ → List ℕ → List ℕ → ℕ → Bool → Case
-caseOn c base ready held way ceiling waiter clock started = record {
-  started = started;
-  clock = clock;
-  runner = at ready 0;
-  base = at base (at ready 0);
-  held = at held (at ready 0);
-  way = at way (at ready 0);
-  named = at base (task-named c);
-  ceiling = at ceiling (object-named c);
-  waiter = at waiter (object-named c);
-  holders = count (object-named c) held;
-}
-
-abbrev pub caseOf : Kernel → Command → Case
-caseOf k c = caseOn c (k .base) (k .ready) (k .held) (k .way) (k .ceiling) (k .waiter) (k .clock) (k .started)
-
-abbrev pub refusal-on : Kernel → Command → ℕ
-refusal-on k c = refusalOf c (caseOf k c)
+-- an accepted command of that kind, carried out
+unfoldable pub carriedAs : Kind → Kernel → Command → Stepped
+carriedAs NoKind k c = answered k 0
+carriedAs Creating k c = createdOf k (c .a) (c .b)
+carriedAs Declaring k c = declaredOf k (c .a) (c .b)
+carriedAs Starting k c = begunOf k
+carriedAs Delaying k c = cond (ltb (k .clock) (c .value)) (sleptOf k (c .value)) (yieldedOf k)
+carriedAs Waking k c = wakeOf k
+carriedAs Advancing k c = advancedOf k (c .value)
+carriedAs Opening k c = heldOf k (c .a) for-open
+carriedAs Entering k c = cond (eqb (c .b) 1) (heldOf k (c .a) for-entry) (awaitingOf k (c .a))
+carriedAs (Ending e) k c = closingOf k (c .a) (e .serves && opens c)
 
 -- the answer to a refused command
 abbrev pub refused : ℕ → ℕ → Answer
 refused n x = record { code = n; running = record { 0 = x }; released = record { 0 = 0 } }
 
 -- the step without the test (of a sound state it is stepOf: proofs/Whole, step-meets)
+-- It is refused as the rules refuse it, of the machine that the tables show, whatever they hold.
 unfoldable pub steppedOf : Kernel → Command → Stepped
-steppedOf k c = cond (eqb (refusal-on k c) 0) (carriedOf k c) (record { next = k; answer = refused (refusal-on k c) (cond (k .started) (first k) 0) })
+steppedOf k c =
+    cond (eqb (refusal (view k) c) 0) (carriedAs (kind c) k c)
+    (record { next = k; answer = refused (refusal (view k) c) (cond (k .started) (first k) 0) })
 
 -- ---- the question
 abbrev pub dueCount : ℕ → ℕ → ℕ → ℕ

@@ -7,25 +7,18 @@ use lib.ListN.{length, set, replicate}
 use Rattle.rules.specs.Line.{at, count, front, all-below}
 use Rattle.rules.specs.Machine.{Machine, tasks}
 use Rattle.line.specs.Tables.{ended}
+pub use Rattle.checks.specs.Shown.{with-idle, nobody-or}
 use Rattle.kernel.specs.declared.Kernel.{Kernel}
 
--- The entries of a line before its first free place; in the ready line idle stands behind them.
+-- The entries of a line before its first free place.
 abbrev pub live : List ℕ → List ℕ
 live [] = []
 live (x ∷ l) = cond (eqb x 0) [] (x ∷ live l)
-
-abbrev pub with-idle : List ℕ → List ℕ
-with-idle [] = 0 ∷ []
-with-idle (x ∷ l) = cond (eqb x 0) (0 ∷ []) (x ∷ with-idle l)
 
 -- Each delayed task with its time.
 abbrev pub timed : List ℕ → List ℕ → List (ℕ × ℕ)
 timed until [] = []
 timed until (t ∷ l) = (at until t, t) ∷ timed until l
-
--- A cell as a queue: 0 is nobody.
-abbrev pub nobody-or : ℕ → List ℕ
-nobody-or w = cond (eqb w 0) [] (w ∷ [])
 
 -- Reading the tables.
 unfoldable pub view : Kernel → Machine

@@ -1,5 +1,5 @@
 // The step and the test on lent tables: an accepted command is carried out where they lie, a refused one leaves them as they are.
-// (What each op does to them: crate ops. When it is refused: refusals.)
+// (What each op does to them: crate ops. When it is refused: crate checks.)
 ghost use Prim.Native.Nat.{ℕ, _<_, _^_};
 ghost use mathlib.Core.Path.{_≡_};
 ghost use lib.ListN.{length};
@@ -8,8 +8,8 @@ ghost use Rattle.kernel.specs.Public.{said, isSound, stepOf};
 ghost use Rattle.kernel.specs.Step as step;
 ghost use Rattle.kernel.specs.Step.{tables};
 use crate::command::Answer;
-use crate::command::Command;
-use crate::refusals;
+use checks::Command;
+use checks::Kind;
 use line::POId;
 use line::TaskID;
 
@@ -47,47 +47,26 @@ fn carry(
     waiter: &mut [u8; 8],
     clock: &mut u64,
     started: &mut bool,
+    k: Kind,
     c: Command,
 ) -> u8
-    ensures { λ r. ⌜ (tables (now (base .exit)) (now (ready .exit)) (now (delayed .exit)) (now (held .exit)) (now (way .exit)) (now (until .exit)) (now (ceiling .exit)) (now (waiter .exit)) (now (clock .exit)) (now (started .exit)) ≡ (step.carriedOf (tables (now (base .entry)) (now (ready .entry)) (now (delayed .entry)) (now (held .entry)) (now (way .entry)) (now (until .entry)) (now (ceiling .entry)) (now (waiter .entry)) (now (clock .entry)) (now (started .entry))) (said c)) .next) × (step.accepted (now (started .exit)) (at (now (ready .exit)) 0) r ≡ (step.carriedOf (tables (now (base .entry)) (now (ready .entry)) (now (delayed .entry)) (now (held .entry)) (now (way .entry)) (now (until .entry)) (now (ceiling .entry)) (now (waiter .entry)) (now (clock .entry)) (now (started .entry))) (said c)) .answer) ⌝ }
+    ensures { λ r. ⌜ (tables (now (base .exit)) (now (ready .exit)) (now (delayed .exit)) (now (held .exit)) (now (way .exit)) (now (until .exit)) (now (ceiling .exit)) (now (waiter .exit)) (now (clock .exit)) (now (started .exit)) ≡ (step.carriedAs k (tables (now (base .entry)) (now (ready .entry)) (now (delayed .entry)) (now (held .entry)) (now (way .entry)) (now (until .entry)) (now (ceiling .entry)) (now (waiter .entry)) (now (clock .entry)) (now (started .entry))) (said c)) .next) × (step.accepted (now (started .exit)) (at (now (ready .exit)) 0) r ≡ (step.carriedAs k (tables (now (base .entry)) (now (ready .entry)) (now (delayed .entry)) (now (held .entry)) (now (way .entry)) (now (until .entry)) (now (ceiling .entry)) (now (waiter .entry)) (now (clock .entry)) (now (started .entry))) (said c)) .answer) ⌝ }
 {
-    let op = c.op;
     let tops = *ceiling;
-    match op {
-        1 => ops::create(base, ready, tops, held, TaskID(c.a), c.b),
-        2 => ops::declare(ceiling, POId(c.a), c.b),
-        3 => ops::begin(started),
-        4 => if *clock < c.value {
-            ops::sleep(ready, delayed, until, c.value)
-        } else {
-            ops::give_way(base, ready, held, tops)
-        },
-        5 => {
-            let t = ops::due(delayed, until, *clock);
-            if t == 0 {
-                0
-            } else {
-                ops::wake(base, ready, delayed, held, until, tops, TaskID(t))
-            }
+    match k {
+        Kind::NoKind => 0,
+        Kind::Creating => ops::create(base, ready, tops, held, TaskID(c.a), c.b),
+        Kind::Declaring => ops::declare(ceiling, POId(c.a), c.b),
+        Kind::Starting => ops::begin(started),
+        Kind::Delaying => ops::delay(base, ready, delayed, held, until, tops, *clock, c.value),
+        Kind::Waking => ops::wake(base, ready, delayed, held, until, tops, *clock),
+        Kind::Advancing => ops::advance(clock, c.value),
+        Kind::Opening => ops::hold(ready, held, way, POId(c.a), 1),
+        Kind::Entering => ops::enter(ready, held, way, waiter, POId(c.a), c.b),
+        Kind::Ending(e) => {
+            let serves = e.serves & (c.b == 1);
+            ops::end(base, ready, held, way, tops, waiter, POId(c.a), serves)
         }
-        7 => ops::hold(ready, held, way, POId(c.a), 1),
-        8 | 11 => {
-            let t = ops::waiting(waiter, POId(c.a), c.b);
-            if t == 0 {
-                ops::close(base, ready, held, way, tops)
-            } else {
-                ops::serve(base, ready, held, tops, waiter, POId(c.a), TaskID(t));
-                ops::close(base, ready, held, way, tops);
-                t
-            }
-        }
-        9 => ops::close(base, ready, held, way, tops),
-        10 => if c.b == 1 {
-            ops::hold(ready, held, way, POId(c.a), 2)
-        } else {
-            ops::queue(ready, waiter, POId(c.a))
-        },
-        _ => ops::advance(clock, c.value),
     }
 }
 
@@ -110,7 +89,8 @@ pub fn step_trusting(
 {
     let tops = *ceiling;
     let waits = *waiter;
-    let code = refusals::refusal(base, ready, held, way, tops, waits, *clock, *started, c);
+    let k = c.kind();
+    let code = checks::refusal(base, ready, held, way, tops, waits, *clock, *started, k, c);
     if code != 0 {
         let shown = line::choose(*started, ready[0], 0);
         return refused(code, shown);
@@ -126,6 +106,7 @@ pub fn step_trusting(
         waiter,
         clock,
         started,
+        k,
         c,
     );
     let on = *started;

@@ -8,10 +8,9 @@ ghost use Rattle.kernel.specs.Step as step;
 
 mod command;
 pub mod in_place;
-mod refusals;
 
+pub use checks::Command;
 pub use command::Answer;
-pub use command::Command;
 pub use line::POId;
 pub use line::TaskID;
 
@@ -50,11 +49,11 @@ pub struct Left {
 impl Kernel {
     pub const IDLE: TaskID = TaskID(0);
 
-    pub const LAST_TASK: TaskID = TaskID(31);
+    pub const LAST_TASK: TaskID = TaskID(checks::LAST_TASK);
 
-    pub const LAST_OBJECT: POId = POId(7);
+    pub const LAST_OBJECT: POId = POId(checks::LAST_OBJECT);
 
-    pub const TOP_PRIORITY: u8 = 15;
+    pub const TOP_PRIORITY: u8 = checks::TOP_PRIORITY;
 
     // Task 0 alone, no object, clock 0, not started.
     pub fn fresh() -> Kernel

@@ -12,28 +12,32 @@ use prog.Wp.{Heap}
 use ghost.Atoms.{Atoms}
 use contract.Monad.{Fun}
 use denote.Ref.{now}
-use Rattle.one_answer.proofs.Law.{OneAnswer, OneEnd, one, both, each-of-two, each-of-three}
+use Rattle.one_answer.proofs.Law.{OneEnd, both, each-of-two, each-of-three}
 use Rattle.ops.proofs.create
 use Rattle.ops.proofs.declare
 use Rattle.ops.proofs.begin
-use Rattle.ops.proofs.sleep
-use Rattle.ops.proofs.give_way
-use Rattle.ops.proofs.due
+use Rattle.ops.proofs.delay
 use Rattle.ops.proofs.wake
 use Rattle.ops.proofs.advance
 use Rattle.ops.proofs.hold
-use Rattle.ops.proofs.close
-use Rattle.ops.proofs.waiting
-use Rattle.ops.proofs.serve
-use Rattle.ops.proofs.queue
+use Rattle.ops.proofs.enter
+use Rattle.ops.proofs.end
 
--- four parts, each equal to a third's
+-- four parts, and five, each equal to a third's
 same-four : {r s : ℕ} {k l m n u v : List ℕ} → r ≡ s → k ≡ l → m ≡ n → u ≡ v → _≡_ {A = ℕ × List ℕ × List ℕ × List ℕ} (r, k, m, u) (s, l, n, v)
 same-four p q h i = cc
 
 each-of-four : {x r s : ℕ} {w k l y m n z u v : List ℕ} → (r ≡ x) × (k ≡ w) × (m ≡ y) × (u ≡ z) → (s ≡ x) × (l ≡ w) × (n ≡ y) × (v ≡ z)
     → _≡_ {A = ℕ × List ℕ × List ℕ × List ℕ} (r, k, m, u) (s, l, n, v)
 each-of-four p q = same-four (p .0 ∙ sym (q .0)) (p .1 ∙ sym (q .1)) (p .2 ∙ sym (q .2)) (p .3 ∙ sym (q .3))
+
+same-five : {r s : ℕ} {k l m n u v f g : List ℕ} → r ≡ s → k ≡ l → m ≡ n → u ≡ v → f ≡ g
+    → _≡_ {A = ℕ × List ℕ × List ℕ × List ℕ × List ℕ} (r, k, m, u, f) (s, l, n, v, g)
+same-five p q h i j = cc
+
+each-of-five : {x r s : ℕ} {w k l y m n z u v t f g : List ℕ} → (r ≡ x) × (k ≡ w) × (m ≡ y) × (u ≡ z) × (f ≡ t)
+    → (s ≡ x) × (l ≡ w) × (n ≡ y) × (v ≡ z) × (g ≡ t) → _≡_ {A = ℕ × List ℕ × List ℕ × List ℕ × List ℕ} (r, k, m, u, f) (s, l, n, v, g)
+each-of-five p q = same-five (p .0 ∙ sym (q .0)) (p .1 ∙ sym (q .1)) (p .2 ∙ sym (q .2)) (p .3 ∙ sym (q .3)) (p .4 ∙ sym (q .4))
 
 module _ {M : Type 1} (𝓤 : URA M) (H : Heap 𝓤) (A : Atoms 𝓤) (mem : Memory → SProp 𝓤) (run : Routine → Fun 𝓤) where
   -- the released task, and each table that it changes
@@ -46,14 +50,8 @@ module _ {M : Type 1} (𝓤 : URA M) (H : Heap 𝓤) (A : Atoms 𝓤) (mem : Mem
   pub begin-single : OneEnd 𝓤 begin.ended (begin.clauses 𝓤 H A mem run) (ℕ × Bool) (λ κs r e. (r, now (e .0)))
   begin-single κs a g r s d e = both 𝓤 _ _ _ each-of-two
 
-  pub sleep-single : OneEnd 𝓤 sleep.ended (sleep.clauses 𝓤 H A mem run) (ℕ × List ℕ × List ℕ × List ℕ) (λ κs r e. (r, now (e .0), now (e .1 .0), now (e .1 .1 .0)))
-  sleep-single κs a g r s d e = both 𝓤 _ _ _ each-of-four
-
-  pub give-way-single : OneEnd 𝓤 give_way.ended (give_way.clauses 𝓤 H A mem run) (ℕ × List ℕ) (λ κs r e. (r, now (e .1 .0)))
-  give-way-single κs a g r s d e = both 𝓤 _ _ _ each-of-two
-
-  pub due-single : OneAnswer 𝓤 due.ended (due.clauses 𝓤 H A mem run)
-  due-single κs a g r s d e = one 𝓤 _ _ _
+  pub delay-single : OneEnd 𝓤 delay.ended (delay.clauses 𝓤 H A mem run) (ℕ × List ℕ × List ℕ × List ℕ) (λ κs r e. (r, now (e .1 .0), now (e .1 .1 .0), now (e .1 .1 .1 .1 .0)))
+  delay-single κs a g r s d e = both 𝓤 _ _ _ each-of-four
 
   pub wake-single : OneEnd 𝓤 wake.ended (wake.clauses 𝓤 H A mem run) (ℕ × List ℕ × List ℕ × List ℕ) (λ κs r e. (r, now (e .1 .0), now (e .1 .1 .0), now (e .1 .1 .1 .1 .0)))
   wake-single κs a g r s d e = both 𝓤 _ _ _ each-of-four
@@ -64,14 +62,8 @@ module _ {M : Type 1} (𝓤 : URA M) (H : Heap 𝓤) (A : Atoms 𝓤) (mem : Mem
   pub hold-single : OneEnd 𝓤 hold.ended (hold.clauses 𝓤 H A mem run) (ℕ × List ℕ × List ℕ) (λ κs r e. (r, now (e .1 .0), now (e .1 .1 .0)))
   hold-single κs a g r s d e = both 𝓤 _ _ _ each-of-three
 
-  pub close-single : OneEnd 𝓤 close.ended (close.clauses 𝓤 H A mem run) (ℕ × List ℕ × List ℕ × List ℕ) (λ κs r e. (r, now (e .1 .0), now (e .1 .1 .0), now (e .1 .1 .1 .0)))
-  close-single κs a g r s d e = both 𝓤 _ _ _ each-of-four
+  pub enter-single : OneEnd 𝓤 enter.ended (enter.clauses 𝓤 H A mem run) (ℕ × List ℕ × List ℕ × List ℕ × List ℕ) (λ κs r e. (r, now (e .0), now (e .1 .0), now (e .1 .1 .0), now (e .1 .1 .1 .0)))
+  enter-single κs a g r s d e = both 𝓤 _ _ _ each-of-five
 
-  pub waiting-single : OneAnswer 𝓤 waiting.ended (waiting.clauses 𝓤 H A mem run)
-  waiting-single κs a g r s d e = one 𝓤 _ _ _
-
-  pub serve-single : OneEnd 𝓤 serve.ended (serve.clauses 𝓤 H A mem run) (ℕ × List ℕ × List ℕ) (λ κs r e. (r, now (e .1 .0), now (e .1 .1 .1 .1 .0)))
-  serve-single κs a g r s d e = both 𝓤 _ _ _ each-of-three
-
-  pub queue-single : OneEnd 𝓤 queue.ended (queue.clauses 𝓤 H A mem run) (ℕ × List ℕ × List ℕ) (λ κs r e. (r, now (e .0), now (e .1 .0)))
-  queue-single κs a g r s d e = both 𝓤 _ _ _ each-of-three
+  pub end-single : OneEnd 𝓤 end.ended (end.clauses 𝓤 H A mem run) (ℕ × List ℕ × List ℕ × List ℕ × List ℕ) (λ κs r e. (r, now (e .1 .0), now (e .1 .1 .0), now (e .1 .1 .1 .0), now (e .1 .1 .1 .1 .1 .0)))
+  end-single κs a g r s d e = both 𝓤 _ _ _ each-of-five

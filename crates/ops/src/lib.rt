@@ -6,7 +6,8 @@ ghost use Prim.Native.Nat.{_+_, _^_};
 ghost use lib.Dec.{eqb, leb, ltb};
 ghost use lib.ListN.{set};
 ghost use Rattle.rules.specs.Line.{at};
-ghost use Rattle.line.specs.Tables.{place, pop, lower, later, more, time-in, with-time};
+ghost use Rattle.line.specs.Tables.{place, pop, lower, later, with-time};
+ghost use Rattle.ops.specs.Moves.{due-in, waits-in, to-tail, served-line, closed-line};
 use line::POId;
 use line::TaskID;
 
@@ -47,7 +48,7 @@ pub fn begin(started: &mut bool) -> u8
 // ---- time
 
 // 4, with a time above the clock: into the delay line
-pub fn sleep(ready: &mut [u8; 32], delayed: &mut [u8; 32], until: &mut [u64; 32], v: u64) -> u8
+fn sleep(ready: &mut [u8; 32], delayed: &mut [u8; 32], until: &mut [u64; 32], v: u64) -> u8
     ensures { λ r. ⌜ (r ≡ 0) × (now (ready .exit) ≡ pop (now (ready .entry))) × (now (delayed .exit) ≡ place (later (now (until .entry)) v) (at (now (ready .entry)) 0) (now (delayed .entry))) × (now (until .exit) ≡ with-time (now (until .entry)) (at (now (ready .entry)) 0) v) ⌝ }
 {
     let r = TaskID(ready[0]);
@@ -58,8 +59,8 @@ pub fn sleep(ready: &mut [u8; 32], delayed: &mut [u8; 32], until: &mut [u64; 32]
 }
 
 // 4, with a time not above the clock: the runner goes to the tail of its base
-pub fn give_way(base: &[u8; 32], ready: &mut [u8; 32], held: &[u8; 32], ceiling: [u8; 8]) -> u8
-    ensures { λ r. ⌜ (r ≡ 0) × (now (ready .exit) ≡ place (lower (now (base .entry)) ceiling (now (held .entry)) (at (now (base .entry)) (at (now (ready .entry)) 0))) (at (now (ready .entry)) 0) (pop (now (ready .entry)))) ⌝ }
+fn give_way(base: &[u8; 32], ready: &mut [u8; 32], held: &[u8; 32], ceiling: [u8; 8]) -> u8
+    ensures { λ r. ⌜ (r ≡ 0) × (now (ready .exit) ≡ to-tail (now (base .entry)) ceiling (now (held .entry)) (at (now (ready .entry)) 0) (pop (now (ready .entry)))) ⌝ }
 {
     let r = TaskID(ready[0]);
     let p = line::of_task(base, r);
@@ -68,16 +69,36 @@ pub fn give_way(base: &[u8; 32], ready: &mut [u8; 32], held: &[u8; 32], ceiling:
     0
 }
 
+// 4: by its time, the one or the other
+pub fn delay(
+    base: &[u8; 32],
+    ready: &mut [u8; 32],
+    delayed: &mut [u8; 32],
+    held: &[u8; 32],
+    until: &mut [u64; 32],
+    ceiling: [u8; 8],
+    clock: u64,
+    v: u64,
+) -> u8
+    ensures { λ r. ⌜ (r ≡ 0) × (now (ready .exit) ≡ cond (ltb clock v) (pop (now (ready .entry))) (to-tail (now (base .entry)) ceiling (now (held .entry)) (at (now (ready .entry)) 0) (pop (now (ready .entry))))) × (now (delayed .exit) ≡ cond (ltb clock v) (place (later (now (until .entry)) v) (at (now (ready .entry)) 0) (now (delayed .entry))) (now (delayed .entry))) × (now (until .exit) ≡ cond (ltb clock v) (with-time (now (until .entry)) (at (now (ready .entry)) 0) v) (now (until .entry))) ⌝ }
+{
+    if clock < v {
+        sleep(ready, delayed, until, v)
+    } else {
+        give_way(base, ready, held, ceiling)
+    }
+}
+
 // The task to wake: the first delay entry, if its time is at most the clock; 0 for nobody.
-pub fn due(delayed: &[u8; 32], until: &[u64; 32], clock: u64) -> u8
-    ensures { λ r. ⌜ r ≡ cond (leb (time-in (now (until .entry)) (at (now (delayed .entry)) 0)) clock) (at (now (delayed .entry)) 0) 0 ⌝ }
+fn due(delayed: &[u8; 32], until: &[u64; 32], clock: u64) -> u8
+    ensures { λ r. ⌜ r ≡ due-in (now (delayed .entry)) (now (until .entry)) clock ⌝ }
 {
     let t = delayed[0];
     line::choose(line::time_of(until, TaskID(t)) <= clock, t, 0)
 }
 
 // 5, where the first delay entry is due: it goes to the tail of its base
-pub fn wake(
+fn rouse(
     base: &[u8; 32],
     ready: &mut [u8; 32],
     delayed: &mut [u8; 32],
@@ -86,13 +107,32 @@ pub fn wake(
     ceiling: [u8; 8],
     t: TaskID,
 ) -> u8
-    ensures { λ r. ⌜ (r ≡ t .0) × (now (ready .exit) ≡ place (lower (now (base .entry)) ceiling (now (held .entry)) (at (now (base .entry)) (t .0))) (t .0) (now (ready .entry))) × (now (delayed .exit) ≡ pop (now (delayed .entry))) × (now (until .exit) ≡ with-time (now (until .entry)) (t .0) 0) ⌝ }
+    ensures { λ r. ⌜ (r ≡ t .0) × (now (ready .exit) ≡ to-tail (now (base .entry)) ceiling (now (held .entry)) (t .0) (now (ready .entry))) × (now (delayed .exit) ≡ pop (now (delayed .entry))) × (now (until .exit) ≡ with-time (now (until .entry)) (t .0) 0) ⌝ }
 {
     let p = line::of_task(base, t);
     line::put_level(ready, base, ceiling, held, p, t);
     line::drop_front(delayed);
     line::set_time(until, t, 0);
     t.0
+}
+
+// 5: whoever is due, or nobody
+pub fn wake(
+    base: &[u8; 32],
+    ready: &mut [u8; 32],
+    delayed: &mut [u8; 32],
+    held: &[u8; 32],
+    until: &mut [u64; 32],
+    ceiling: [u8; 8],
+    clock: u64,
+) -> u8
+    ensures { λ r. ⌜ (r ≡ due-in (now (delayed .entry)) (now (until .entry)) clock) × (now (ready .exit) ≡ served-line (now (base .entry)) ceiling (now (held .entry)) (due-in (now (delayed .entry)) (now (until .entry)) clock) (now (ready .entry))) × (now (delayed .exit) ≡ cond (eqb (due-in (now (delayed .entry)) (now (until .entry)) clock) 0) (now (delayed .entry)) (pop (now (delayed .entry)))) × (now (until .exit) ≡ cond (eqb (due-in (now (delayed .entry)) (now (until .entry)) clock) 0) (now (until .entry)) (with-time (now (until .entry)) (due-in (now (delayed .entry)) (now (until .entry)) clock) 0)) ⌝ }
+{
+    let t = due(delayed, until, clock);
+    if t == 0 {
+        return 0;
+    }
+    rouse(base, ready, delayed, held, until, ceiling, TaskID(t))
 }
 
 // 6: the clock, some ticks later: as it was, where it would pass its end
@@ -119,14 +159,14 @@ pub fn hold(ready: &[u8; 32], held: &mut [u8; 32], way: &mut [u8; 32], o: POId, 
 }
 
 // 8, 9, 11: the runner holds nothing and goes to the head of its base
-pub fn close(
+fn close(
     base: &[u8; 32],
     ready: &mut [u8; 32],
     held: &mut [u8; 32],
     way: &mut [u8; 32],
     ceiling: [u8; 8],
 ) -> u8
-    ensures { λ r. ⌜ (r ≡ 0) × (now (ready .exit) ≡ place (lower (now (base .entry)) ceiling (set (now (held .entry)) (at (now (ready .entry)) 0) 0) (more (at (now (base .entry)) (at (now (ready .entry)) 0)))) (at (now (ready .entry)) 0) (pop (now (ready .entry)))) × (now (held .exit) ≡ set (now (held .entry)) (at (now (ready .entry)) 0) 0) × (now (way .exit) ≡ set (now (way .entry)) (at (now (ready .entry)) 0) 0) ⌝ }
+    ensures { λ r. ⌜ (r ≡ 0) × (now (ready .exit) ≡ closed-line (now (base .entry)) ceiling (now (held .entry)) (now (ready .entry))) × (now (held .exit) ≡ set (now (held .entry)) (at (now (ready .entry)) 0) 0) × (now (way .exit) ≡ set (now (way .entry)) (at (now (ready .entry)) 0) 0) ⌝ }
 {
     let r = TaskID(ready[0]);
     line::set_task(held, r, 0);
@@ -138,16 +178,16 @@ pub fn close(
     0
 }
 
-// The task to serve: who waits on the object, if the barrier is open; 0 for nobody.
-pub fn waiting(waiter: &[u8; 8], o: POId, barrier: u8) -> u8
-    ensures { λ r. ⌜ r ≡ cond (eqb barrier 1) (at (now (waiter .entry)) (o .0)) 0 ⌝ }
+// The task to serve: who waits on the object, where the end of the body serves; 0 for nobody.
+fn waiting(waiter: &[u8; 8], o: POId, serves: bool) -> u8
+    ensures { λ r. ⌜ r ≡ waits-in (now (waiter .entry)) (o .0) serves ⌝ }
 {
     let w = *waiter;
-    line::choose(barrier == 1, line::of_object(w, o), 0)
+    line::choose(serves, line::of_object(w, o), 0)
 }
 
 // 8 and 11, where t waits and the barrier is open: it goes to the tail of its base
-pub fn serve(
+fn serve(
     base: &[u8; 32],
     ready: &mut [u8; 32],
     held: &[u8; 32],
@@ -156,7 +196,7 @@ pub fn serve(
     o: POId,
     t: TaskID,
 ) -> u8
-    ensures { λ r. ⌜ (r ≡ t .0) × (now (ready .exit) ≡ place (lower (now (base .entry)) ceiling (now (held .entry)) (at (now (base .entry)) (t .0))) (t .0) (now (ready .entry))) × (now (waiter .exit) ≡ set (now (waiter .entry)) (o .0) 0) ⌝ }
+    ensures { λ r. ⌜ (r ≡ t .0) × (now (ready .exit) ≡ to-tail (now (base .entry)) ceiling (now (held .entry)) (t .0) (now (ready .entry))) × (now (waiter .exit) ≡ set (now (waiter .entry)) (o .0) 0) ⌝ }
 {
     let p = line::of_task(base, t);
     line::put_level(ready, base, ceiling, held, p, t);
@@ -165,11 +205,52 @@ pub fn serve(
 }
 
 // 10 with the barrier shut: the runner leaves the line and waits on the object
-pub fn queue(ready: &mut [u8; 32], waiter: &mut [u8; 8], o: POId) -> u8
+fn queue(ready: &mut [u8; 32], waiter: &mut [u8; 8], o: POId) -> u8
     ensures { λ r. ⌜ (r ≡ 0) × (now (ready .exit) ≡ pop (now (ready .entry))) × (now (waiter .exit) ≡ set (now (waiter .entry)) (o .0) (at (now (ready .entry)) 0)) ⌝ }
 {
     let r = ready[0];
     line::set_object(waiter, o, r);
     line::drop_front(ready);
     0
+}
+
+// 10: by its barrier, the one or the other
+pub fn enter(
+    ready: &mut [u8; 32],
+    held: &mut [u8; 32],
+    way: &mut [u8; 32],
+    waiter: &mut [u8; 8],
+    o: POId,
+    b: u8,
+) -> u8
+    ensures { λ r. ⌜ (r ≡ 0) × (now (ready .exit) ≡ cond (eqb b 1) (now (ready .entry)) (pop (now (ready .entry)))) × (now (held .exit) ≡ cond (eqb b 1) (set (now (held .entry)) (at (now (ready .entry)) 0) (o .0)) (now (held .entry))) × (now (way .exit) ≡ cond (eqb b 1) (set (now (way .entry)) (at (now (ready .entry)) 0) 2) (now (way .entry))) × (now (waiter .exit) ≡ cond (eqb b 1) (now (waiter .entry)) (set (now (waiter .entry)) (o .0) (at (now (ready .entry)) 0))) ⌝ }
+{
+    if b == 1 {
+        hold(ready, held, way, o, 2)
+    } else {
+        queue(ready, waiter, o)
+    }
+}
+
+// 8, 9 and 11, the end of a body: who waits is served first, where it serves; then the runner closes
+pub fn end(
+    base: &[u8; 32],
+    ready: &mut [u8; 32],
+    held: &mut [u8; 32],
+    way: &mut [u8; 32],
+    ceiling: [u8; 8],
+    waiter: &mut [u8; 8],
+    o: POId,
+    serves: bool,
+) -> u8
+    ensures { λ r. ⌜ (r ≡ waits-in (now (waiter .entry)) (o .0) serves) × (now (ready .exit) ≡ closed-line (now (base .entry)) ceiling (now (held .entry)) (served-line (now (base .entry)) ceiling (now (held .entry)) (waits-in (now (waiter .entry)) (o .0) serves) (now (ready .entry)))) × (now (held .exit) ≡ set (now (held .entry)) (at (served-line (now (base .entry)) ceiling (now (held .entry)) (waits-in (now (waiter .entry)) (o .0) serves) (now (ready .entry))) 0) 0) × (now (way .exit) ≡ set (now (way .entry)) (at (served-line (now (base .entry)) ceiling (now (held .entry)) (waits-in (now (waiter .entry)) (o .0) serves) (now (ready .entry))) 0) 0) × (now (waiter .exit) ≡ cond (eqb (waits-in (now (waiter .entry)) (o .0) serves) 0) (now (waiter .entry)) (set (now (waiter .entry)) (o .0) 0)) ⌝ }
+{
+    let t = waiting(waiter, o, serves);
+    if t == 0 {
+        close(base, ready, held, way, ceiling)
+    } else {
+        serve(base, ready, held, ceiling, waiter, o, TaskID(t));
+        close(base, ready, held, way, ceiling);
+        t
+    }
 }

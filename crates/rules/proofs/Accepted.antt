@@ -2,20 +2,24 @@
 -- The one place where the theorems go through the ops one by one; all others go by the row. Assumes nothing.
 use Prim.Native.Nat.{ℕ, zero, suc, _+_, _≤_, _<_, _^_}
 use native.Mathlib.Omega.{arith}
-use mathlib.Core.Path.{_≡_, refl, sym, ap, _∙_}
+use mathlib.Core.Path.{_≡_, refl, sym, ap, _∙_, subst}
 use mathlib.Core.Logic.{_≢_, _⊎_, inl, inr}
-use mathlib.Core.Bool.{Bool, true, false, cond, not, _&&_, true≢false}
+use mathlib.Core.Bool.{Bool, true, false, cond, not, _&&_, _||_, true≢false}
 use mathlib.Core.List.{List, [], _∷_}
 use lib.Dec.{eqb, leb, ltb}
-use lib.ListN.{getD}
+use lib.ListN.{getD, List·getD-eq-default}
 use borrow.Author.Tests.{eqb-true, eq-eqb, eqb-false, ltb-true, ltb-false, leb-true, leb-false, le-ltb, not-false, not-true}
-use Rattle.rules.specs.Line.{at, within, front, empty, first-alone, at-tail, count}
+use Rattle.rules.specs.Line.{at, within, all-below, front, empty, first-alone, at-tail, count}
 use Rattle.rules.specs.Machine.{Machine, Command, active, runner, created}
-use Rattle.rules.specs.Table.{Out, same, take, yield, sleep, await, Rel, none, due, serve, Effect, nothing, creates, declares, begins, moves, opens, closing, effect, freed, enter, release}
-use Rattle.rules.specs.Refusals.{checks, first-number, refusal, fits, holds-so}
-use Rattle.rules.proofs.Words.{All, cmd}
+use Rattle.rules.specs.declared.Kind.{Kind}
+use Rattle.rules.specs.declared.Kind.the-variants.{NoKind, Creating, Declaring, Starting, Delaying, Waking, Advancing, Opening, Entering, Ending}
+use Rattle.rules.specs.declared.End.{End}
+use Rattle.rules.specs.Kinds.{kinds, last-op, kind-at, kind}
+use Rattle.rules.specs.Table.{Out, same, take, yield, sleep, await, Rel, none, due, serve, Effect, nothing, creates, declares, begins, moves, opens, closing, effect-of, effect, freed, enter, release}
+use Rattle.rules.specs.Refusals.{checks-of, checks, first-number, refusal, fits, holds-so}
+use Rattle.rules.proofs.Words.{All}
 use Rattle.rules.proofs.Lists.{all-map, count-place}
-use Rattle.rules.proofs.Tests.{both-true, both-false}
+use Rattle.rules.proofs.Tests.{Tests, both-true, both-false, tests-is, tests-all-below}
 use Rattle.rules.proofs.Sounds.{Sound, Admits, act-held, object-known, object-real}
 use Rattle.rules.proofs.Kept.{AllowedOut, MayLeave}
 use Rattle.rules.proofs.SetUp.{MayCreate, MayDeclare}
@@ -34,9 +38,21 @@ passed (x ∷ l) k e n = go (x .0) (passed l (k .1)) e
     go false ih e = rw (ih e n) (elim (eqb n (x .1)) as (λ q. cond q false false ≡ false) [ true ↦ refl | false ↦ refl ])
 
 -- Of an accepted command the check numbered n did not hold.
-pub check-passed : (m : Machine) (c : Command) → refusal m c ≡ 0 → (n : ℕ) → numbered n (checks m c) ≡ false
+numbers : (k : Kind) (m : Machine) (c : Command) → All (λ x. x .1 ≢ 0) (checks-of k m c)
+numbers NoKind m c = omega arith
+numbers Creating m c = omega arith
+numbers Declaring m c = omega arith
+numbers Starting m c = omega arith
+numbers Delaying m c = omega arith
+numbers Waking m c = omega arith
+numbers Advancing m c = omega arith
+numbers Opening m c = omega arith
+numbers Entering m c = omega arith
+numbers (Ending e) m c = omega arith
+
+pub check-passed : (m : Machine) (c : Command) (k : Kind) → kind c ≡ k → refusal m c ≡ 0 → (n : ℕ) → numbered n (checks-of k m c) ≡ false
 unfolding refusal
-check-passed m c ok n = passed (checks m c) (omega arith) ok n
+check-passed m c k e ok n = subst (λ (j : Kind). numbered n (checks-of j m c) ≡ false) e (passed (checks m c) (numbers (kind c) m c) ok n)
 
 -- A row that is allowed.
 pub record MayMove (m : Machine) (out : Out) (rel : Rel) (n : ℕ) : Type 0 where
@@ -102,9 +118,12 @@ module _ (m : Machine) (s : Sound m) where
   closes-front o h w q true = runner-stays o (eqb-true _ _ (both-true _ _ (not-false _ q) .0)) (is-declared o h)
   closes-front o h w q false = refl
 
-  -- The end of a body with a barrier: the runner holds the object, in whatever way, and stays in front of whoever is served.
-  closes : (c : Command) (w : ℕ) → m .started ≡ true → not (not (eqb (at (m .ceiling) (c .a)) 0)) ≡ false → runner m ≢ 0 → not (holds-so m (c .a) w) ≡ false → Allowed m (closing c)
-  closes c w on there busy so = let k = closes-front (c .a) there w so (opens c) in record { on = on; leaves = λ z. busy (sym k ∙ z); in-front = λ n. k; in-time = still }
+  -- The end of a body: the runner holds the object, in whatever way, and stays in front of whoever is served.
+  closes : (c : Command) (e : End) → m .started ≡ true → not (not (eqb (at (m .ceiling) (c .a)) 0)) ≡ false → runner m ≢ 0 → not (holds-so m (c .a) (e .way)) ≡ false
+      → Allowed m (closing (e .serves) c)
+  closes c e on there busy so =
+      let k = closes-front (c .a) there (e .way) so (e .serves && opens c) in
+      record { on = on; leaves = λ z. busy (sym k ∙ z); in-front = λ n. k; in-time = still }
 
   enters : (o b : ℕ) → MayLeave m → Admits m o (runner m) → count o (m .held) ≡ 0 → leb b 1 ≡ true → eqb b 0 && not (empty (getD (m .queue) o [])) ≡ false → (x : Bool) → eqb b 1 ≡ x
       → AllowedOut m (cond x (take o 2) (await o))
@@ -115,53 +134,54 @@ module _ (m : Machine) (s : Sound m) where
   delays v g f true q = record { leaves = g; ahead = ltb-true _ _ q; fits = ltb-true _ _ f }
   delays v g f false q = g
 
-  -- Op by op.
-  by-op : (op a b v : ℕ) → refusal m (cmd op a b v) ≡ 0 → Allowed m (effect m (cmd op a b v))
+  -- what takes an object, or asks for it
+  admitted : (o : ℕ) → not (not (eqb (at (m .ceiling) o) 0)) ≡ false → ltb (at (m .ceiling) o) (at (m .base) (runner m)) ≡ false → Admits m o (runner m)
+  admitted o there top = (is-declared o there, ltb-false _ _ top)
+
+  unheld : (o : ℕ) → leb 1 (count o (m .held)) ≡ false → count o (m .held) ≡ 0
+  unheld o free = let z : count o (m .held) < 1 = leb-false _ _ free in omega arith
+
+  -- Kind by kind.
+  by-kind : (c : Command) (k : Kind) → ((n : ℕ) → numbered n (checks-of k m c) ≡ false) → Allowed m (effect-of k m c)
   unfolding release
-  by-op zero a b v ok = tt
-  by-op (suc zero) a b v ok =
-      let p = check-passed m (cmd 1 a b v) ok in
-      let f = both-true (within 1 31 a && within 1 15 b) (eqb v 0) (not-false _ (p 4)) .0 in
-      let g = both-true (within 1 31 a) (within 1 15 b) f in
-      let t = within-true 1 31 a (g .0) in
-      record { off = off-start (p 3); new = both-false (created m a) false (p 5) .0; task = (t .0, omega (arith, t .1)); rank = within-true 1 15 b (g .1) }
-  by-op (suc (suc zero)) a b v ok =
-      let p = check-passed m (cmd 2 a b v) ok in
-      let f = both-true (within 1 7 a && within 1 15 b) (eqb v 0) (not-false _ (p 4)) .0 in
-      let g = both-true (within 1 7 a) (within 1 15 b) f in
-      let t = within-true 1 7 a (g .0) in
-      record { off = off-start (p 3); object = (t .0, omega (arith, t .1)); rank = within-true 1 15 b (g .1) }
-  by-op (suc (suc (suc zero))) a b v ok = off-start (check-passed m (cmd 3 a b v) ok 3)
-  by-op (suc (suc (suc (suc zero)))) a b v ok =
-      let p = check-passed m (cmd 4 a b v) ok in
-      let f = both-true (eqb a 0 && eqb b 0) (ltb v (2 ^ 64)) (not-false _ (p 4)) .1 in
-      record { on = not-false _ (p 2); leaves = delays v (leaves (p 7) (p 8)) f (ltb (m .clock) v) refl; in-front = λ n. refl; in-time = still }
-  by-op (suc (suc (suc (suc (suc zero))))) a b v ok = record { on = not-false _ (check-passed m (cmd 5 a b v) ok 2); leaves = tt; in-front = λ n. absurd (n refl); in-time = still }
-  by-op (suc (suc (suc (suc (suc (suc zero)))))) a b v ok =
-      let p = check-passed m (cmd 6 a b v) ok in
-      record { on = not-false _ (p 2); leaves = tt; in-front = λ n. absurd (n refl); in-time = ltb-true _ _ (not-false _ (p 13)) }
-  by-op (suc (suc (suc (suc (suc (suc (suc zero))))))) a b v ok =
-      let p = check-passed m (cmd 7 a b v) ok in
-      record { on = not-false _ (p 2); leaves = record { leaves = leaves (p 7) (p 8); admits = (is-declared a (p 6), ltb-false _ _ (p 10)); unheld = (let z : count a (m .held) < 1 = leb-false _ _ (p 11) in omega arith); in-one-way = (omega arith, omega arith) }; in-front = λ n. refl; in-time = still }
-  by-op (suc (suc (suc (suc (suc (suc (suc (suc zero)))))))) a b v ok =
-      let p = check-passed m (cmd 8 a b v) ok in
-      closes (cmd 8 a b v) 1 (not-false _ (p 2)) (p 6) (eqb-false _ _ (p 7)) (both-false _ false (p 9) .0)
-  by-op (suc (suc (suc (suc (suc (suc (suc (suc (suc zero))))))))) a b v ok =
-      let p = check-passed m (cmd 9 a b v) ok in
-      record { on = not-false _ (p 2); leaves = eqb-false _ _ (p 7); in-front = λ n. refl; in-time = still }
-  by-op (suc (suc (suc (suc (suc (suc (suc (suc (suc (suc zero)))))))))) a b v ok =
-      let p = check-passed m (cmd 10 a b v) ok in
-      let f = both-true (within 1 7 a) (leb b 1) (both-true (within 1 7 a && leb b 1) (eqb v 0) (not-false _ (p 4)) .0) .1 in
-      record { on = not-false _ (p 2); leaves = enters a b (leaves (p 7) (p 8)) (is-declared a (p 6), ltb-false _ _ (p 10)) (let z : count a (m .held) < 1 = leb-false _ _ (p 11) in omega arith) f (p 12) (eqb b 1) refl; in-front = λ n. refl; in-time = still }
-  by-op (suc (suc (suc (suc (suc (suc (suc (suc (suc (suc (suc zero))))))))))) a b v ok =
-      let p = check-passed m (cmd 11 a b v) ok in
-      closes (cmd 11 a b v) 2 (not-false _ (p 2)) (p 6) (eqb-false _ _ (p 7)) (p 9)
-  by-op (suc (suc (suc (suc (suc (suc (suc (suc (suc (suc (suc (suc op)))))))))))) a b v ok = tt
+  by-kind c NoKind p = tt
+  by-kind c Creating p =
+      let f = both-true (within 1 31 (c .a) && within 1 15 (c .b)) (eqb (c .value) 0) (not-false _ (p 4)) .0 in
+      let g = both-true (within 1 31 (c .a)) (within 1 15 (c .b)) f in
+      let t = within-true 1 31 (c .a) (g .0) in
+      record { off = off-start (p 3); new = p 5; task = (t .0, omega (arith, t .1)); rank = within-true 1 15 (c .b) (g .1) }
+  by-kind c Declaring p =
+      let f = both-true (within 1 7 (c .a) && within 1 15 (c .b)) (eqb (c .value) 0) (not-false _ (p 4)) .0 in
+      let g = both-true (within 1 7 (c .a)) (within 1 15 (c .b)) f in
+      let t = within-true 1 7 (c .a) (g .0) in
+      record { off = off-start (p 3); object = (t .0, omega (arith, t .1)); rank = within-true 1 15 (c .b) (g .1) }
+  by-kind c Starting p = off-start (p 3)
+  by-kind c Delaying p =
+      let f = both-true (eqb (c .a) 0 && eqb (c .b) 0) (ltb (c .value) (2 ^ 64)) (not-false _ (p 4)) .1 in
+      record { on = not-false _ (p 2); leaves = delays (c .value) (leaves (p 7) (p 8)) f (ltb (m .clock) (c .value)) refl; in-front = λ n. refl; in-time = still }
+  by-kind c Waking p = record { on = not-false _ (p 2); leaves = tt; in-front = λ n. absurd (n refl); in-time = still }
+  by-kind c Advancing p = record { on = not-false _ (p 2); leaves = tt; in-front = λ n. absurd (n refl); in-time = ltb-true _ _ (not-false _ (p 13)) }
+  by-kind c Opening p =
+      record {
+        on = not-false _ (p 2);
+        leaves = record { leaves = leaves (p 7) (p 8); admits = admitted (c .a) (p 6) (p 10); unheld = unheld (c .a) (p 11); in-one-way = (omega arith, omega arith) };
+        in-front = λ n. refl;
+        in-time = still;
+      }
+  by-kind c Entering p =
+      let f = both-true (within 1 7 (c .a)) (leb (c .b) 1) (both-true (within 1 7 (c .a) && leb (c .b) 1) (eqb (c .value) 0) (not-false _ (p 4)) .0) .1 in
+      record {
+        on = not-false _ (p 2);
+        leaves = enters (c .a) (c .b) (leaves (p 7) (p 8)) (admitted (c .a) (p 6) (p 10)) (unheld (c .a) (p 11)) f (p 12) (eqb (c .b) 1) refl;
+        in-front = λ n. refl;
+        in-time = still;
+      }
+  by-kind c (Ending e) p = closes c e (not-false _ (p 2)) (p 6) (eqb-false _ _ (p 7)) (p 9)
 
   pub allowed : (c : Command) → refusal m c ≡ 0 → Allowed m (effect m c)
-  allowed c ok = by-op (c .op) (c .a) (c .b) (c .value) ok
+  allowed c ok = by-kind c (kind c) (check-passed m c (kind c) refl ok)
 
--- Which ops may release: a Wake; closep and done, and these nobody from the delay line; and no other.
+-- Which kinds may release: a Wake; the end of a body with a barrier, and that nobody from the delay line; and no other.
 abbrev pub rel-of : Effect → Rel
 rel-of nothing = none
 rel-of (creates t p) = none
@@ -173,22 +193,57 @@ pub not-due : {A : Type 0} (b : Bool) (o : ℕ) → cond b (serve o) none ≡ du
 not-due true o e = let z : _≡_ {A = ℕ} 0 1 = cc in absurd (omega arith)
 not-due false o e = let z : _≡_ {A = ℕ} 0 1 = cc in absurd (omega arith)
 
-pub data Releases (op : ℕ) (rel : Rel) : Type 0 where
-  nobody : rel ≡ none → Releases op rel
-  waking : op ≡ 5 → Releases op rel
-  serving : (op ≡ 8) ⊎ (op ≡ 11) → (rel ≡ due → ⊥) → Releases op rel
+-- which of the two it may be: 1 by a Wake, 2 by the end of a body with a barrier, 0 neither
+abbrev pub releasing : Kind → ℕ
+releasing NoKind = 0
+releasing Creating = 0
+releasing Declaring = 0
+releasing Starting = 0
+releasing Delaying = 0
+releasing Waking = 1
+releasing Advancing = 0
+releasing Opening = 0
+releasing Entering = 0
+releasing (Ending e) = cond (e .serves) 2 0
 
-pub releases : (m : Machine) (op a b v : ℕ) → Releases op (rel-of (effect m (cmd op a b v)))
-releases m zero a b v = nobody refl
-releases m (suc zero) a b v = nobody refl
-releases m (suc (suc zero)) a b v = nobody refl
-releases m (suc (suc (suc zero))) a b v = nobody refl
-releases m (suc (suc (suc (suc zero)))) a b v = nobody refl
-releases m (suc (suc (suc (suc (suc zero))))) a b v = waking refl
-releases m (suc (suc (suc (suc (suc (suc zero)))))) a b v = nobody refl
-releases m (suc (suc (suc (suc (suc (suc (suc zero))))))) a b v = nobody refl
-releases m (suc (suc (suc (suc (suc (suc (suc (suc zero)))))))) a b v = serving (inl refl) (not-due (opens (cmd 8 a b v)) a)
-releases m (suc (suc (suc (suc (suc (suc (suc (suc (suc zero))))))))) a b v = nobody refl
-releases m (suc (suc (suc (suc (suc (suc (suc (suc (suc (suc zero)))))))))) a b v = nobody refl
-releases m (suc (suc (suc (suc (suc (suc (suc (suc (suc (suc (suc zero))))))))))) a b v = serving (inr refl) (not-due (opens (cmd 11 a b v)) a)
-releases m (suc (suc (suc (suc (suc (suc (suc (suc (suc (suc (suc (suc op)))))))))))) a b v = nobody refl
+pub data Releases (k : Kind) (rel : Rel) : Type 0 where
+  nobody : rel ≡ none → Releases k rel
+  woken : releasing k ≡ 1 → Releases k rel
+  served : releasing k ≡ 2 → (rel ≡ due → ⊥) → Releases k rel
+
+pub releases : (m : Machine) (c : Command) (k : Kind) → Releases k (rel-of (effect-of k m c))
+releases m c NoKind = nobody refl
+releases m c Creating = nobody refl
+releases m c Declaring = nobody refl
+releases m c Starting = nobody refl
+releases m c Delaying = nobody refl
+releases m c Waking = woken refl
+releases m c Advancing = nobody refl
+releases m c Opening = nobody refl
+releases m c Entering = nobody refl
+releases m c (Ending e) = go (e .serves) refl
+  where
+    go : (b : Bool) → e .serves ≡ b → Releases (Ending e) (cond (e .serves && opens c) (serve (c .a)) none)
+    go true s = served (rw s) (not-due (e .serves && opens c) (c .a))
+    go false s = nobody (rw s)
+
+-- A rule over all ops holds where it holds of those of the table, and of what is no op.
+each-op : (f : ℕ → Kind → Bool) → all-below (suc last-op) (λ n. f n (kind-at n)) ≡ true → ((n : ℕ) → f n NoKind ≡ true) → (op : ℕ) → f op (kind-at op) ≡ true
+each-op f known other op = go (ltb op (suc last-op)) refl
+  where
+    go : (b : Bool) → ltb op (suc last-op) ≡ b → f op (kind-at op) ≡ true
+    go true e = tests-all-below (λ n. tests-is (f n (kind-at n))) (suc last-op) .sure known op (ltb-true _ _ e)
+    go false e = rw (List·getD-eq-default kinds NoKind {n = op} (ltb-false _ _ e)) (other op)
+
+-- The ops that may release are 5, and 8 and 11.
+pub wake-op : (op : ℕ) → releasing (kind-at op) ≡ 1 → op ≡ 5
+unfolding all-below
+wake-op op e = eqb-true _ _ (rw (eq-eqb _ 1 e) at (each-op (λ n k. not (eqb (releasing k) 1) || eqb n 5) refl (λ n. refl) op))
+
+pub serve-op : (op : ℕ) → releasing (kind-at op) ≡ 2 → (op ≡ 8) ⊎ (op ≡ 11)
+unfolding all-below
+serve-op op e = go (eqb op 8) refl (rw (eq-eqb _ 2 e) at (each-op (λ n k. not (eqb (releasing k) 2) || (eqb n 8 || eqb n 11)) refl (λ n. refl) op))
+  where
+    go : (b : Bool) → eqb op 8 ≡ b → b || eqb op 11 ≡ true → (op ≡ 8) ⊎ (op ≡ 11)
+    go true h t = inl (eqb-true _ _ h)
+    go false h t = inr (eqb-true _ _ t)

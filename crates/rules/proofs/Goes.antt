@@ -61,7 +61,7 @@ module _ (m : Machine) (s : Sound m) where
       subst (λ (x : ℕ). at (leave close (release rel m) .held) x ≡ 0) (g .in-front (λ e. let z : _≡_ {A = ℕ} 0 1 = cc in absurd (omega arith))) (new-held (release rel m) (release-sound m s (g .on) rel) 0)
 
   -- Whom the end of a body with a barrier releases: with barrier 1 the first that waits on the object, with barrier 0 nobody.
-  serves : (c : Command) → freed-by (closing c) m ≡ cond (eqb (c .b) 1) (front 0 (getD (m .queue) (c .a) [])) 0
+  serves : (c : Command) → freed-by (closing true c) m ≡ cond (eqb (c .b) 1) (front 0 (getD (m .queue) (c .a) [])) 0
   serves c = go (eqb (c .b) 1) (getD (m .queue) (c .a) []) refl
     where
       go : (x : Bool) (q : List ℕ) → getD (m .queue) (c .a) [] ≡ q → front 0 (freed (cond x (serve (c .a)) none) m) ≡ cond x (front 0 q) 0
@@ -83,13 +83,13 @@ module _ (m : Machine) (s : Sound m) where
       past h = List·getD-eq-default (set (m .queue) o (rest (getD (m .queue) o []))) [] {n = o} (let z = length-set (m .queue) o (rest (getD (m .queue) o [])) in omega arith)
 
 -- The rows of the three closings: closep and done have the same.
-closep-row : (m : Machine) (c : Command) → c .op ≡ 8 → effect m c ≡ closing c
+closep-row : (m : Machine) (c : Command) → c .op ≡ 8 → effect m c ≡ closing true c
 closep-row m c e = rw e
 
 closef-row : (m : Machine) (c : Command) → c .op ≡ 9 → effect m c ≡ moves close none 0
 closef-row m c e = rw e
 
-done-row : (m : Machine) (c : Command) → c .op ≡ 11 → effect m c ≡ closing c
+done-row : (m : Machine) (c : Command) → c .op ≡ 11 → effect m c ≡ closing true c
 done-row m c e = rw e
 
 -- With barrier 0 the row of done is the one that document 01 gives it: so (0 being in range as an unused operand and as a barrier) a tape whose
@@ -112,7 +112,7 @@ closed-holds-nothing m s c ok op = rw ok (go op)
 -- An accepted closep or done serves by its barrier: with 1 it releases the first that waits on its object, and nobody waits there any more;
 -- with 0 it releases nobody, and who waits waits on.
 module _ (m : Machine) (s : Sound m) (c : Command) (ok : accepts m c ≡ true) (op : (c .op ≡ 8) ⊎ (c .op ≡ 11)) where
-  its-row : effect m c ≡ closing c
+  its-row : effect m c ≡ closing true c
   its-row = ⊎-elim (λ (e : c .op ≡ 8). closep-row m c e) (λ (e : c .op ≡ 11). done-row m c e) op
 
   pub closing-serves : released m c ≡ cond (eqb (c .b) 1) (front 0 (getD (m .queue) (c .a) [])) 0

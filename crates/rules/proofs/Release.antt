@@ -13,13 +13,14 @@ use lib.Seq.{getD-set-other}
 use borrow.Author.Tests.{ltb-false, ne-eqb, le-ltb}
 use Rattle.rules.specs.Line.{at, count, front, rest, first-alone, place, at-tail}
 use Rattle.rules.specs.Machine.{Machine, Command, active, runner, running, tasks}
+use Rattle.rules.specs.Kinds.{kind}
 use Rattle.rules.specs.Table.{Out, same, take, yield, close, sleep, await, Rel, none, due, serve, Effect, nothing, creates, declares, begins, moves, effect, freed, freed-by, enter, release, leave, carry}
 use Rattle.rules.specs.Run.{next, released, run}
 use Rattle.rules.proofs.Words.{All, Pairwise, moments, Clear}
 use Rattle.rules.proofs.Lists.{all-map, eq-or-ne, lt-or-ge, one-self}
 use Rattle.rules.proofs.Sounds.{Sound, act-free, based, others, object-real}
 use Rattle.rules.proofs.Kept.{AllowedOut, freed-away, release-sound, new-held, other-held}
-use Rattle.rules.proofs.Accepted.{Allowed, rel-of, Releases, nobody, waking, serving, releases}
+use Rattle.rules.proofs.Accepted.{Allowed, rel-of, Releases, nobody, woken, served, releases, wake-op, serve-op}
 use Rattle.rules.proofs.Step.{Step, kept, carried, step, next-sound, moved-started}
 use Rattle.rules.proofs.Clear.{Over}
 
@@ -243,14 +244,14 @@ freed-of (moves out rel n) m = refl
 pub released-by : (m : Machine) → Sound m → (c : Command) → released m c ≢ 0 → (c .op ≡ 5) ⊎ (c .op ≡ 8) ⊎ (c .op ≡ 11)
 released-by m s c n = go (step m s c)
   where
-    of-row : released m c ≡ freed-by (effect m c) m → Releases (c .op) (rel-of (effect m c)) → (c .op ≡ 5) ⊎ (c .op ≡ 8) ⊎ (c .op ≡ 11)
+    of-row : released m c ≡ freed-by (effect m c) m → Releases (kind c) (rel-of (effect m c)) → (c .op ≡ 5) ⊎ (c .op ≡ 8) ⊎ (c .op ≡ 11)
     of-row f (nobody r) = absurd (n (f ∙ (freed-of (effect m c) m ∙ ap (λ (rel : Rel). front 0 (freed rel m)) r)))
-    of-row f (waking r) = inl r
-    of-row f (serving r q) = inr r
+    of-row f (woken r) = inl (wake-op (c .op) r)
+    of-row f (served r q) = inr (serve-op (c .op) r)
 
     go : Step m c → (c .op ≡ 5) ⊎ (c .op ≡ 8) ⊎ (c .op ≡ 11)
     go (kept e f w) = absurd (n f)
-    go (carried e f w g) = of-row f (releases m (c .op) (c .a) (c .b) (c .value))
+    go (carried e f w g) = of-row f (releases m c (kind c))
 
 -- A started machine's bases stay, and a step changes what the runner holds and nobody else's.
 release-base : (rel : Rel) (m : Machine) → (release rel m .base ≡ m .base) × (release rel m .held ≡ m .held)

@@ -7,12 +7,15 @@ use mathlib.Core.Path.{_≡_, refl, sym, ap, _∙_}
 use mathlib.Core.Logic.{_≢_, _↔_, _⊎_}
 use mathlib.Core.Bool.{true, cond}
 use mathlib.Core.List.{List, []}
-use lib.Dec.{eqb}
+use lib.Dec.{eqb, ltb}
 use lib.ListN.{getD, replicate}
 use borrow.Author.Tests.{ne-eqb}
-use Rattle.rules.specs.Line.{at, front}
+use Rattle.rules.specs.Line.{at, front, neighbours}
 use Rattle.rules.specs.Machine.{Machine, Command, fresh, runner, running}
-use Rattle.rules.specs.Refusals.{refusal}
+use Rattle.rules.specs.declared.Kind.{Kind}
+use Rattle.rules.specs.declared.Kind.the-variants.{NoKind, Creating, Declaring, Starting, Delaying, Waking, Advancing, Opening, Entering, Ending}
+use Rattle.rules.specs.declared.End.{End}
+use Rattle.rules.specs.Refusals.{behind-range, refusal}
 use Rattle.rules.specs.Sound.{sound}
 use Rattle.rules.specs.Run.{accepts, next, released, answer, run, answers, question, wakes-left}
 use Rattle.rules.proofs.Words.{All, Pairwise, moments, wakes, wakes-in, DueAt, Clear}
@@ -132,6 +135,22 @@ ahead-of-a-holder before =
 pub closing-empties : (before : List Command) (c : Command) → let m = run fresh before in
     accepts m c ≡ true → (c .op ≡ 8) ⊎ (c .op ≡ 9) ⊎ (c .op ≡ 11) → at (next m c .held) (runner m) ≡ 0
 closing-empties before c ok op = closed-holds-nothing (run fresh before) (run-sound before fresh fresh-sound) c ok op
+
+-- ## The order of the checks
+-- Behind Range each kind's checks stand in document 01's order: 2 or 3, then 5 to 13, each number above the one before it. So the first that holds
+-- is the least that holds.
+-- Rules out: a row of checks in another order. Leaves: which checks a kind has (Limits, by computing).
+pub checks-in-order : (k : Kind) (m : Machine) (c : Command) → neighbours (λ x y. ltb (x .1) (y .1)) (behind-range k m c) ≡ true
+checks-in-order NoKind m c = refl
+checks-in-order Creating m c = refl
+checks-in-order Declaring m c = refl
+checks-in-order Starting m c = refl
+checks-in-order Delaying m c = refl
+checks-in-order Waking m c = refl
+checks-in-order Advancing m c = refl
+checks-in-order Opening m c = refl
+checks-in-order Entering m c = refl
+checks-in-order (Ending e) m c = refl
 
 -- ## Who is served
 -- An accepted closep or done with barrier 1 releases the task that waits on its object (0: none does), and nobody waits there any more; with

@@ -13,6 +13,7 @@ use lib.ListN.{getD, set, length, replicate}
 use borrow.Author.Tests.{eqb-true, eq-eqb, eqb-false, ne-eqb, le-ltb, le-leb, leb-true}
 use Rattle.rules.specs.Line.{at, within, front, rest, first-alone, by-time, count, one-if, empty}
 use Rattle.rules.specs.Machine.{Machine, Command, tasks, created, runner}
+use Rattle.rules.specs.Kinds.{kind}
 use Rattle.rules.specs.Table.{Out, same, take, yield, close, sleep, await, Rel, none, due, serve, Effect, nothing, creates, declares, begins, moves, first-due, effect, freed, freed-by, later, release, leave, carry}
 use Rattle.rules.specs.Refusals.{refusal}
 use Rattle.rules.specs.Sound.{standings, waits}
@@ -21,7 +22,7 @@ use Rattle.rules.proofs.Words.{All, Pairwise, cmd, wakes, wakes-in, Due
 use Rattle.rules.proofs.Lists.{waits-fewer, one-self}
 use Rattle.rules.proofs.Sounds.{Sound, once, known, based}
 use Rattle.rules.proofs.Kept.{AllowedOut, release-sound}
-use Rattle.rules.proofs.Accepted.{Allowed, rel-of, not-due, Releases, nobody, waking, serving, releases}
+use Rattle.rules.proofs.Accepted.{Allowed, rel-of, not-due, Releases, nobody, woken, served, releases, wake-op}
 use Rattle.rules.proofs.Step.{Step, kept, carried, step, next-sound, run-sound, moved-started}
 
 -- The delay line: the entry at index r, and what placing a later entry leaves of it.
@@ -45,13 +46,13 @@ place-later d x (e ∷ l) (suc r) k h q =
     rw (le-ltb d (e .0) (omega arith)) (omega (arith, w .0), w .1)
 
 -- Only a Wake takes from the delay line.
-only-wake : (m : Machine) (op a b v : ℕ) → op ≢ 5 → rel-of (effect m (cmd op a b v)) ≡ due → ⊥
-only-wake m op a b v n e = go (releases m op a b v)
+only-wake : (m : Machine) (c : Command) → c .op ≢ 5 → rel-of (effect m c) ≡ due → ⊥
+only-wake m c n e = go (releases m c (kind c))
   where
-    go : Releases op (rel-of (effect m (cmd op a b v))) → ⊥
+    go : Releases (kind c) (rel-of (effect m c)) → ⊥
     go (nobody f) = not-due false 0 (sym f ∙ e)
-    go (waking f) = n f
-    go (serving f g) = g e
+    go (woken f) = n (wake-op (c .op) f)
+    go (served f g) = g e
 
 -- Each part of a step that takes nothing from the delay line leaves t where it is.
 module _ (m : Machine) (t r : ℕ) (d : DueAt m t r) where
@@ -111,7 +112,7 @@ module _ (m : Machine) (s : Sound m) (t r : ℕ) (d : DueAt m t r) where
     where
       go : Step m c → DueAt (next m c) t r × (released m c ≢ t)
       go (kept e f w) = rw (e, f) (d, λ z. not-idle (sym z))
-      go (carried e f w g) = rw (e, f) (stays (effect m c) g (only-wake m (c .op) (c .a) (c .b) (c .value) (eqb-false _ _ (sym w ∙ other))))
+      go (carried e f w g) = rw (e, f) (stays (effect m c) g (only-wake m c (eqb-false _ _ (sym w ∙ other))))
 
 -- An accepted Wake takes the first entry, which is due if any is.
 abbrev Turn : Machine → Command → ℕ → ℕ → Type 0

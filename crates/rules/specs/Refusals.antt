@@ -1,18 +1,24 @@
--- The numbers of refusal 2 to 13: a test for each, under its sentence, in their order.
--- 1, Shape, comes before them all, and is tested where a state comes in: these are of a sound state. What stands in [ ] is tested elsewhere.
+-- The numbers of refusal 2 to 13: a check for each, under its sentence; and for each kind of command its checks, in their order.
+-- 1, Shape, comes before them all, and is tested where a state comes in: these are of a sound state. What stands in [ ] is said by the kinds' rows,
+-- or tested elsewhere.
 use Prim.Native.Nat.{ℕ, _+_, _^_}
-use mathlib.Core.Bool.{Bool, true, cond, not, _&&_, _||_}
+use mathlib.Core.Bool.{Bool, true, false, cond, not, _&&_}
 use mathlib.Core.List.{List, [], _∷_}
 use lib.Dec.{eqb, leb, ltb}
 use lib.ListN.{getD}
-use Rattle.rules.specs.Line.{at, count, empty, within, among}
-use Rattle.rules.specs.Machine.{Machine, Command, created, declared, empty-handed, runner, for-open, for-entry}
+use Rattle.rules.specs.Line.{at, count, empty, within}
+use Rattle.rules.specs.Machine.{Machine, Command, created, declared, empty-handed, runner}
+use Rattle.rules.specs.declared.Kind.{Kind}
+use Rattle.rules.specs.declared.Kind.the-variants.{NoKind, Creating, Declaring, Starting, Delaying, Waking, Advancing, Opening, Entering, Ending}
+use Rattle.rules.specs.declared.End.{End}
+use Rattle.rules.specs.Kinds.{kind}
 
--- What an operand may be. (A priority may be a ceiling. Ticks are bounded by 13.)
+-- What an operand may be. (Of what is no op nothing fits. A priority may be a ceiling. Ticks are bounded by 13.)
 pub data Operand : Type 0 where
-  unused task object priority barrier time ticks : Operand
+  never unused task object priority barrier time ticks : Operand
 
 abbrev pub fits : Operand → ℕ → Bool
+fits never n = false
 fits unused n = eqb n 0
 fits task n = within 1 31 n
 fits object n = within 1 7 n
@@ -21,11 +27,7 @@ fits barrier n = leb n 1
 fits time n = ltb n (2 ^ 64)
 fits ticks n = true
 
--- the last op
-abbrev pub last-op : ℕ
-last-op = 11
-
--- The operands in use, of each op.
+-- The operands in use, of each kind.
 pub record Operands : Type 0 where
   pub a : Operand
   pub b : Operand
@@ -34,60 +36,101 @@ pub record Operands : Type 0 where
 abbrev uses : Operand → Operand → Operand → Operands
 uses a b value = record { a = a; b = b; value = value }
 
-abbrev pub operand-rows : List Operands
-operand-rows =
-    uses unused unused unused ∷  -- no op
-    uses task priority unused ∷  -- 1 create
-    uses object priority unused ∷  -- 2 object
-    uses unused unused unused ∷  -- 3 start
-    uses unused unused time ∷  -- 4 delay
-    uses unused unused unused ∷  -- 5 wake
-    uses unused unused ticks ∷  -- 6 advance
-    uses object unused unused ∷  -- 7 open
-    uses object barrier unused ∷  -- 8 closep
-    uses object unused unused ∷  -- 9 closef
-    uses object barrier unused ∷  -- 10 entry
-    uses object barrier unused ∷ []  -- 11 done (b is request 2's)
-
-abbrev pub operands : ℕ → Operands
-operands op = getD operand-rows op (uses unused unused unused)
+abbrev pub operands : Kind → Operands
+operands NoKind = uses never never never
+operands Creating = uses task priority unused
+operands Declaring = uses object priority unused
+operands Starting = uses unused unused unused
+operands Delaying = uses unused unused time
+operands Waking = uses unused unused unused
+operands Advancing = uses unused unused ticks
+operands Opening = uses object unused unused
+operands Entering = uses object barrier unused
+operands (Ending e) = uses object (cond (e .serves) barrier unused) unused
 
 -- a known op, and each operand what it may be
+abbrev pub formed-as : Kind → Command → Bool
+formed-as k c = let u = operands k in fits (u .a) (c .a) && fits (u .b) (c .b) && fits (u .value) (c .value)
+
 abbrev pub formed : Command → Bool
-formed c = let u = operands (c .op) in within 1 last-op (c .op) && fits (u .a) (c .a) && fits (u .b) (c .b) && fits (u .value) (c .value)
+formed c = formed-as (kind c) c
 
 -- the runner holds the object, in that way
 abbrev pub holds-so : Machine → ℕ → ℕ → Bool
 holds-so m o w = eqb (at (m .held) (runner m)) o && eqb (at (m .way) (runner m)) w
 
--- Order of a step's checks: 4, then 2 or 3, then 5 to 13.
+-- The checks: when each holds, and its number.
+
+-- 4 Range: unknown op; a task not 1..31, an object not 1..7, a priority or ceiling not 1..15; barrier above 1; an unused operand not 0
+-- (and, beyond the paper, a delay until 2^64 or later, which no caller of ours can ask for)
+abbrev range : Kind → Command → Bool × ℕ
+range k c = (not (formed-as k c), 4)
+
+-- 2 Early: [ops 4..11 or a draw] before Start
+abbrev early : Machine → Bool × ℕ
+early m = (not (m .started), 2)
+
+-- 3 Late: [ops 1..3] after Start
+abbrev late : Machine → Bool × ℕ
+late m = (m .started, 3)
+
+-- 5 Taken: task or object set up before
+abbrev task-taken : Machine → Command → Bool × ℕ
+task-taken m c = (created m (c .a), 5)
+
+abbrev object-taken : Machine → Command → Bool × ℕ
+object-taken m c = (declared m (c .a), 5)
+
+-- 6 Missing: object, [or task asked about,] not set up
+abbrev missing : Machine → Command → Bool × ℕ
+missing m c = (not (declared m (c .a)), 6)
+
+-- 7 Idle: [ops 4 and 7..11] while task 0 runs
+abbrev idle : Machine → Bool × ℕ
+idle m = (eqb (runner m) 0, 7)
+
+-- 8 Inside: [ops 4, 7, 10] while the runner holds an object
+abbrev inside : Machine → Bool × ℕ
+inside m = (not (empty-handed m (runner m)), 8)
+
+-- 9 Outside: closing an object the runner does not hold, or holds in the other way (8, 9 end an open; 11 ends an entry)
+abbrev outside : ℕ → Machine → Command → Bool × ℕ
+outside way m c = (not (holds-so m (c .a) way), 9)
+
+-- 10 Ceiling: the runner's base is above the ceiling (of the object that ops 7 and 10 would take)
+abbrev ceiling-below : Machine → Command → Bool × ℕ
+ceiling-below m c = (ltb (at (m .ceiling) (c .a)) (at (m .base) (runner m)), 10)
+
+-- 11 Held: another task holds the object (8 came first, so the runner holds none)
+abbrev held-by-another : Machine → Command → Bool × ℕ
+held-by-another m c = (leb 1 (count (c .a) (m .held)), 11)
+
+-- 12 Queue: entry with barrier 0 while a task waits there
+abbrev queue-full : Machine → Command → Bool × ℕ
+queue-full m c = (eqb (c .b) 0 && not (empty (getD (m .queue) (c .a) [])), 12)
+
+-- 13 Clock: advance past 2^64-1
+abbrev clock-past : Machine → Command → Bool × ℕ
+clock-past m c = (not (ltb (m .clock + c .value) (2 ^ 64)), 13)
+
+-- Order of a step's checks: 4, then 2 or 3, then 5 to 13. Behind 4 each kind has those that speak of its ops (what stands in [ ] above).
+abbrev pub behind-range : Kind → Machine → Command → List (Bool × ℕ)
+behind-range NoKind m c = []
+behind-range Creating m c = late m ∷ task-taken m c ∷ []
+behind-range Declaring m c = late m ∷ object-taken m c ∷ []
+behind-range Starting m c = late m ∷ []
+behind-range Delaying m c = early m ∷ idle m ∷ inside m ∷ []
+behind-range Waking m c = early m ∷ []
+behind-range Advancing m c = early m ∷ clock-past m c ∷ []
+behind-range Opening m c = early m ∷ missing m c ∷ idle m ∷ inside m ∷ ceiling-below m c ∷ held-by-another m c ∷ []
+behind-range Entering m c = early m ∷ missing m c ∷ idle m ∷ inside m ∷ ceiling-below m c ∷ held-by-another m c ∷ queue-full m c ∷ []
+behind-range (Ending e) m c = early m ∷ missing m c ∷ idle m ∷ outside (e .way) m c ∷ []
+
+abbrev pub checks-of : Kind → Machine → Command → List (Bool × ℕ)
+checks-of k m c = range k c ∷ behind-range k m c
+
 abbrev pub checks : Machine → Command → List (Bool × ℕ)
-checks m c =
-    -- 4 Range: unknown op; a task not 1..31, an object not 1..7, a priority or ceiling not 1..15; barrier above 1; an unused operand not 0
-    -- (and, beyond the paper, a delay until 2^64 or later, which no caller of ours can ask for)
-    (not (formed c), 4) ∷
-    -- 2 Early: ops 4..11 [or a draw] before Start
-    (within 4 last-op (c .op) && not (m .started), 2) ∷
-    -- 3 Late: ops 1..3 after Start
-    (within 1 3 (c .op) && m .started, 3) ∷
-    -- 5 Taken: task or object set up before
-    (eqb (c .op) 1 && created m (c .a) || eqb (c .op) 2 && declared m (c .a), 5) ∷
-    -- 6 Missing: object, [or task asked about,] not set up
-    (within 7 last-op (c .op) && not (declared m (c .a)), 6) ∷
-    -- 7 Idle: ops 4 and 7..11 while task 0 runs
-    ((eqb (c .op) 4 || within 7 last-op (c .op)) && eqb (runner m) 0, 7) ∷
-    -- 8 Inside: ops 4, 7, 10 while the runner holds an object
-    (among (4 ∷ 7 ∷ 10 ∷ []) (c .op) && not (empty-handed m (runner m)), 8) ∷
-    -- 9 Outside: closing an object the runner does not hold, or holds in the other way (8, 9 end an open; 11 ends an entry)
-    (among (8 ∷ 9 ∷ []) (c .op) && not (holds-so m (c .a) for-open) || eqb (c .op) 11 && not (holds-so m (c .a) for-entry), 9) ∷
-    -- 10 Ceiling: the runner's base is above the ceiling (of the object that ops 7 and 10 would take)
-    (among (7 ∷ 10 ∷ []) (c .op) && ltb (at (m .ceiling) (c .a)) (at (m .base) (runner m)), 10) ∷
-    -- 11 Held: another task holds the object (8 came first, so the runner holds none)
-    (among (7 ∷ 10 ∷ []) (c .op) && leb 1 (count (c .a) (m .held)), 11) ∷
-    -- 12 Queue: entry with barrier 0 while a task waits there
-    (eqb (c .op) 10 && eqb (c .b) 0 && not (empty (getD (m .queue) (c .a) [])), 12) ∷
-    -- 13 Clock: advance past 2^64-1
-    (eqb (c .op) 6 && not (ltb (m .clock + c .value) (2 ^ 64)), 13) ∷ []
+checks m c = checks-of (kind c) m c
 
 -- the number of the first check that holds, 0 where none does
 abbrev pub first-number : List (Bool × ℕ) → ℕ

@@ -7,6 +7,10 @@ use lib.Dec.{eqb, leb, ltb}
 use lib.ListN.{getD, set}
 use Rattle.rules.specs.Line.{at, front, rest, empty, first-alone, at-tail, at-head, by-time}
 use Rattle.rules.specs.Machine.{Machine, Command, active, runner, tasks, for-open, for-entry}
+use Rattle.rules.specs.declared.Kind.{Kind}
+use Rattle.rules.specs.declared.Kind.the-variants.{NoKind, Creating, Declaring, Starting, Delaying, Waking, Advancing, Opening, Entering, Ending}
+use Rattle.rules.specs.declared.End.{End}
+use Rattle.rules.specs.Kinds.{kind}
 
 -- The way out of the runner: where it goes.
 pub data Out : Type 0 where
@@ -38,43 +42,37 @@ first-due m = not (empty (m .delay)) && leb (front (0, 0) (m .delay) .0) (m .clo
 abbrev pub opens : Command → Bool
 opens c = eqb (c .b) 1
 
--- The end of a body with a barrier: if b is 1 and a task waits on the object, it goes to the tail of its base and is released;
--- then the runner holds nothing and goes to the head of its base.
-abbrev pub closing : Command → Effect
-closing c = moves close (cond (opens c) (serve (c .a)) none) 0
+-- The end of a body. 8 closep a=object b=barrier: if b is 1 and a task waits on the object, it goes to the tail of its base and is released; then
+-- the runner holds nothing and goes to the head of its base. 9 closef a=object: the runner holds nothing and goes to the head of its base.
+-- 11 done a=object b=barrier: ends an entry, and treats a waiter as closep does. (Request 2. In document 01 `done` had no barrier, and a waiting
+-- task was not looked at; Ada 9.5.3 serves the queue after every protected action that may change a barrier.)
+abbrev pub closing : Bool → Command → Effect
+closing serves c = moves close (cond (serves && opens c) (serve (c .a)) none) 0
 
--- The table: a row for each op 1..11, and no other op has one.
+-- The table: a row for each kind of command.
+abbrev pub effect-of : Kind → Machine → Command → Effect
+effect-of NoKind m c = nothing
+-- 1 create a=task b=priority: created, placed at the tail of its base
+effect-of Creating m c = creates (c .a) (c .b)
+-- 2 object a=object b=ceiling: declared
+effect-of Declaring m c = declares (c .a) (c .b)
+-- 3 start: the front runs
+effect-of Starting m c = begins
+-- 4 delay value=time: time above the clock: into the delay line. Otherwise: the runner goes to the tail of its base and stays ready
+effect-of Delaying m c = moves (cond (ltb (m .clock) (c .value)) (sleep (c .value)) yield) none 0
+-- 5 wake: the first delay entry, if its time is at most the clock, goes to the tail of its base and is the released task; otherwise nothing changes
+effect-of Waking m c = moves same (cond (first-due m) due none) 0
+-- 6 advance value=ticks: the clock grows by that much; 0 is allowed
+effect-of Advancing m c = moves same none (c .value)
+-- 7 open a=object: the runner holds it, for a procedure or function
+effect-of Opening m c = moves (take (c .a) for-open) none 0
+-- 10 entry a=object b=barrier: b 1: the runner holds it, for an entry, whoever waits. b 0: the runner leaves the line and waits on the object
+effect-of Entering m c = moves (cond (eqb (c .b) 1) (take (c .a) for-entry) (await (c .a))) none 0
+-- 8 closep, 9 closef and 11 done: the end of a body, which serves by its barrier or has none
+effect-of (Ending e) m c = closing (e .serves) c
+
 abbrev pub effect : Machine → Command → Effect
-effect m c =
-    getD
-    (nothing ∷
-    -- 1 create a=task b=priority: created, placed at the tail of its base
-    creates (c .a) (c .b) ∷
-    -- 2 object a=object b=ceiling: declared
-    declares (c .a) (c .b) ∷
-    -- 3 start: the front runs
-    begins ∷
-    -- 4 delay value=time: time above the clock: into the delay line. Otherwise: the runner goes to the tail of its base and stays ready
-    moves (cond (ltb (m .clock) (c .value)) (sleep (c .value)) yield) none 0 ∷
-    -- 5 wake: the first delay entry, if its time is at most the clock, goes to the tail of its base and is the released task;
-    -- otherwise nothing changes
-    moves same (cond (first-due m) due none) 0 ∷
-    -- 6 advance value=ticks: the clock grows by that much; 0 is allowed
-    moves same none (c .value) ∷
-    -- 7 open a=object: the runner holds it, for a procedure or function
-    moves (take (c .a) for-open) none 0 ∷
-    -- 8 closep a=object b=barrier: if b is 1 and a task waits on the object, it goes to the tail of its base and is released;
-    -- then the runner holds nothing and goes to the head of its base
-    closing c ∷
-    -- 9 closef a=object: the runner holds nothing and goes to the head of its base
-    moves close none 0 ∷
-    -- 10 entry a=object b=barrier: b 1: the runner holds it, for an entry, whoever waits.
-    -- b 0: the runner leaves the line and waits on the object
-    moves (cond (eqb (c .b) 1) (take (c .a) for-entry) (await (c .a))) none 0 ∷
-    -- 11 done a=object b=barrier: ends an entry, and treats a waiter as closep does. (Request 2. In document 01 `done` had no barrier,
-    -- and a waiting task was not looked at; Ada 9.5.3 serves the queue after every protected action that may change a barrier.)
-    closing c ∷ [])
-    (c .op) nothing
+effect m c = effect-of (kind c) m c
 
 -- The machine with other bases and ceilings, started or not; with other lines; with other objects held; and some ticks later.
 abbrev pub with-set-up : Machine → List ℕ → List ℕ → Bool → Machine

@@ -1,0 +1,38 @@
+-- The kinds of command: what an op asks for, whatever its number is. The op table and the refusals go by the kind.
+use Prim.Native.Nat.{ℕ, _-_}
+use mathlib.Core.Bool.{Bool, true, false}
+use mathlib.Core.List.{List, [], _∷_}
+use lib.ListN.{getD, length}
+use Rattle.rules.specs.declared.Kind.{Kind}
+use Rattle.rules.specs.declared.Kind.the-variants.{NoKind, Creating, Declaring, Starting, Delaying, Waking, Advancing, Opening, Entering, Ending}
+use Rattle.rules.specs.Machine.{Command, for-open, for-entry}
+
+-- the end of a body that is held in that way
+abbrev pub ends : ℕ → Bool → Kind
+ends way serves = Ending (record { way = way; serves = serves })
+
+-- The kind of each op 1..11; no other number is an op.
+abbrev pub kinds : List Kind
+kinds =
+    NoKind ∷
+    Creating ∷  -- 1 create
+    Declaring ∷  -- 2 object
+    Starting ∷  -- 3 start
+    Delaying ∷  -- 4 delay
+    Waking ∷  -- 5 wake
+    Advancing ∷  -- 6 advance
+    Opening ∷  -- 7 open
+    ends for-open true ∷  -- 8 closep
+    ends for-open false ∷  -- 9 closef
+    Entering ∷  -- 10 entry
+    ends for-entry true ∷ []  -- 11 done (its barrier is request 2's)
+
+-- the last op
+abbrev pub last-op : ℕ
+last-op = length kinds - 1
+
+abbrev pub kind-at : ℕ → Kind
+kind-at op = getD kinds op NoKind
+
+abbrev pub kind : Command → Kind
+kind c = kind-at (c .op)
