@@ -7,7 +7,7 @@ use lib.ListN.{length}
 use Rattle.rules.specs.Line.{at}
 use Rattle.rules.specs.Machine.{fresh}
 use Rattle.kernel.specs.declared.Kernel.{Kernel}
-use Rattle.kernel.specs.declared.command.Command.{Command}
+use Rattle.checks.specs.declared.Command.{Command}
 use Rattle.kernel.specs.View.{encode}
 use Rattle.kernel.specs.Public.{said, stepOf}
 

@@ -19,7 +19,7 @@ use Rattle.rules.proofs.Sounds.{Sound, tests-sound}
 use Rattle.rules.proofs.Step.{Step, kept, carried, step, moved-started, run-sound, fresh-sound}
 use Rattle.rules.proofs.Walk.{set-up}
 use Rattle.kernel.specs.declared.Kernel.{Kernel}
-use Rattle.kernel.specs.declared.command.Command.{Command}
+use Rattle.checks.specs.declared.Command.{Command}
 use Rattle.kernel.specs.View.{view, encode}
 use Rattle.kernel.specs.Public.{isSound, stepOf, stepped, said, runningOf}
 use Rattle.kernel.proofs.Round.{view-encode}

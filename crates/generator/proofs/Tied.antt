@@ -12,7 +12,7 @@ use Rattle.rules.specs.Line.{at, empty, front, rest}
 use Rattle.rules.specs.Machine.{Machine, for-open, for-entry}
 use Rattle.rules.specs.Machine as rules
 use Rattle.kernel.specs.declared.Kernel.{Kernel}
-use Rattle.kernel.specs.declared.command.Command.{Command}
+use Rattle.checks.specs.declared.Command.{Command}
 use Rattle.kernel.specs.View.{view, with-idle, nobody-or}
 use Rattle.generator.specs.declared.Drawn.{Drawn}
 use Rattle.generator.specs.declared.Profile as given

@@ -5,7 +5,7 @@ use mathlib.Core.Bool.{cond}
 use lib.Dec.{eqb}
 use Rattle.rules.specs.Machine as rules
 use Rattle.kernel.specs.declared.Kernel.{Kernel}
-use Rattle.kernel.specs.declared.command.Command.{Command}
+use Rattle.checks.specs.declared.Command.{Command}
 use Rattle.kernel.specs.declared.command.Answer.{Answer}
 use Rattle.kernel.specs.View.{view}
 use Rattle.kernel.specs.Public.{isSound, stepped, runningOf}

@@ -6,7 +6,7 @@ use mathlib.Core.List.{List, [], _∷_}
 use lib.Dec.{eqb, leb, ltb}
 use lib.ListN.{getD, length}
 use Rattle.rules.specs.Line.{at, count}
-use Rattle.kernel.specs.declared.command.Command.{Command}
+use Rattle.checks.specs.declared.Command.{Command}
 use Rattle.generator.specs.declared.Profile.{Profile}
 use Rattle.generator.specs.declared.Drawn.{Drawn}
 use Rattle.generator.specs.declared.Sight.{Sight}

@@ -1,20 +1,21 @@
 -- A number above 255 is out of range wherever it stands, so a command that has one is refused as one of op 0 is: by 4, after 1 and before all
--- else. The idea: no row of the rules' table of operands has a number above 31 in a or b. Assumes nothing.
-use Prim.Native.Nat.{ℕ, suc, _<_}
+-- else. The idea: no kind of command has a number above 31 in a or b. Assumes nothing.
+use Prim.Native.Nat.{ℕ, _<_}
 use native.Mathlib.Omega.{arith}
 use mathlib.Core.Path.{_≡_, refl, sym, ap, _∙_}
 use mathlib.Core.Bool.{Bool, true, false, cond, _&&_, true≢false, and-false}
 use mathlib.Core.List.{List}
 use lib.Dec.{eqb, leb}
-use lib.ListN.{length, replicate}
+use lib.ListN.{length, replicate, List·getD-eq-default}
 use borrow.Author.Tests.{ne-eqb, lt-leb, leb-false}
 use Rattle.rules.specs.Line.{within}
 use Rattle.rules.specs.Machine.{Machine, Command, running}
-use Rattle.rules.specs.Refusals.{Operand, unused, task, object, priority, barrier, time, ticks, Operands, fits, last-op, operand-rows, operands, refusal}
+use Rattle.rules.specs.declared.Kind.{Kind}
+use Rattle.rules.specs.declared.Kind.the-variants.{NoKind, Creating, Declaring, Starting, Delaying, Waking, Advancing, Opening, Entering, Ending}
+use Rattle.rules.specs.Kinds.{kinds, kind}
+use Rattle.rules.specs.Refusals.{Operand, never, unused, task, object, priority, barrier, time, ticks, fits, operands, refusal}
 use Rattle.rules.specs.Refusals as rules
 use Rattle.rules.specs.Run.{next, released, answer, question}
-use Rattle.rules.proofs.Lists.{all-at}
-use Rattle.rules.proofs.Tests.{tests-is, tests-every}
 use Rattle.kernel.specs.declared.Kernel.{Kernel}
 use Rattle.kernel.specs.declared.Left.{Left}
 use Rattle.kernel.specs.declared.Stepped.{Stepped}
@@ -29,6 +30,7 @@ use Rattle.image.specs.Tables.{stepRead}
 
 -- what stands in a byte: every operand but a time and ticks
 abbrev in-a-byte : Operand → Bool
+in-a-byte never = true
 in-a-byte unused = true
 in-a-byte task = true
 in-a-byte object = true
@@ -42,6 +44,7 @@ module _ (n : ℕ) (h : 255 < n) where
   up-to lo hi k = rw (lt-leb n hi (omega arith)) (and-false (leb lo n))
 
   too-wide : (x : Operand) → in-a-byte x ≡ true → fits x n ≡ false
+  too-wide never e = refl
   too-wide unused e = ne-eqb n 0 (λ z. omega arith)
   too-wide task e = up-to 1 31 (omega arith)
   too-wide object e = up-to 1 7 (omega arith)
@@ -50,21 +53,43 @@ module _ (n : ℕ) (h : 255 < n) where
   too-wide time e = absurd (true≢false (sym e))
   too-wide ticks e = absurd (true≢false (sym e))
 
-  -- in every row of the table a and b are such; an op past the last has the row of no op
-  wide-a : (op : ℕ) → fits (operands op .a) n ≡ false
-  wide-a op = too-wide (operands op .a) (all-at (λ (r : Operands). in-a-byte (r .a) ≡ true) operand-rows op (operands (suc last-op)) refl (tests-every (λ (r : Operands). tests-is (in-a-byte (r .a))) operand-rows .sure refl))
+  -- of every kind a and b are such
+  wide-a : (k : Kind) → fits (operands k .a) n ≡ false
+  wide-a NoKind = refl
+  wide-a Creating = too-wide task refl
+  wide-a Declaring = too-wide object refl
+  wide-a Starting = too-wide unused refl
+  wide-a Delaying = too-wide unused refl
+  wide-a Waking = too-wide unused refl
+  wide-a Advancing = too-wide unused refl
+  wide-a Opening = too-wide object refl
+  wide-a Entering = too-wide object refl
+  wide-a (Ending e) = too-wide object refl
 
-  wide-b : (op : ℕ) → fits (operands op .b) n ≡ false
-  wide-b op = too-wide (operands op .b) (all-at (λ (r : Operands). in-a-byte (r .b) ≡ true) operand-rows op (operands (suc last-op)) refl (tests-every (λ (r : Operands). tests-is (in-a-byte (r .b))) operand-rows .sure refl))
+  wide-b : (k : Kind) → fits (operands k .b) n ≡ false
+  wide-b NoKind = refl
+  wide-b Creating = too-wide priority refl
+  wide-b Declaring = too-wide priority refl
+  wide-b Starting = too-wide unused refl
+  wide-b Delaying = too-wide unused refl
+  wide-b Waking = too-wide unused refl
+  wide-b Advancing = too-wide unused refl
+  wide-b Opening = too-wide unused refl
+  wide-b Entering = too-wide barrier refl
+  wide-b (Ending e) = go (e .serves)
+    where
+      go : (x : Bool) → fits (cond x barrier unused) n ≡ false
+      go true = too-wide barrier refl
+      go false = too-wide unused refl
 
 -- The command has a number above 255, so it is not formed.
 unformed : (c : Command) → leb (c .op) 255 && leb (c .a) 255 && leb (c .b) 255 ≡ false → rules.formed c ≡ false
 unformed c = go (leb (c .op) 255) refl (leb (c .a) 255) refl (leb (c .b) 255) refl
   where
     go : (x : Bool) → leb (c .op) 255 ≡ x → (y : Bool) → leb (c .a) 255 ≡ y → (z : Bool) → leb (c .b) 255 ≡ z → x && y && z ≡ false → rules.formed c ≡ false
-    go false e y f z g q = rw (up-to (c .op) (leb-false (c .op) 255 e) 1 last-op (omega arith))
-    go true e false f z g q = rw (wide-a (c .a) (leb-false (c .a) 255 f) (c .op), and-false)
-    go true e true f false g q = rw (wide-b (c .b) (leb-false (c .b) 255 g) (c .op), and-false)
+    go false e y f z g q = let w : 255 < c .op = leb-false (c .op) 255 e in rw (List·getD-eq-default kinds NoKind {n = c .op} (omega arith))
+    go true e false f z g q = rw (wide-a (c .a) (leb-false (c .a) 255 f) (kind c))
+    go true e true f false g q = rw (wide-b (c .b) (leb-false (c .b) 255 g) (kind c), and-false)
     go true e true f true g q = absurd (true≢false q)
 
 -- Two commands that are not formed are answered alike, by 4.

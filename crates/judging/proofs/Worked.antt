@@ -7,7 +7,7 @@ use Rattle.rules.specs.Line.{all-below}
 use Rattle.rules.specs.Table.{carry, leave, release}
 use Rattle.rules.specs.Refusals.{refusal}
 use Rattle.rules.specs.Run as rules
-use Rattle.kernel.specs.declared.command.Command.{Command}
+use Rattle.checks.specs.declared.Command.{Command}
 use Rattle.kernel.specs.declared.command.Answer.{Answer}
 use Rattle.record.specs.Form.{recordOf}
 use Rattle.tape.specs.Read.{readOf, judged, endOf, nextAt}

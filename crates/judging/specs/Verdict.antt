@@ -8,7 +8,7 @@ use lib.ListN.{length, take}
 use Rattle.rules.specs.Machine.{Machine, Command, fresh}
 use Rattle.rules.specs.Run.{next, answer}
 use Rattle.rules.specs.Run as R
-use Rattle.kernel.specs.declared.command.Command as given
+use Rattle.checks.specs.declared.Command as given
 use Rattle.kernel.specs.declared.command.Answer.{Answer}
 use Rattle.record.specs.declared.Record.{Record}
 use Rattle.record.specs.Form.{recordOf}

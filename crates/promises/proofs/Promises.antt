@@ -20,7 +20,7 @@ use Rattle.rules.proofs.Step.{next-sound, run-sound, fresh-sound}
 use Rattle.rules.proofs.Wakes.{a-wake, keeps-its-turn, at-wake, question-left, left-question, wakes-in-row, row-of-wakes}
 use Rattle.rules.proofs.Theorems as rules
 use Rattle.kernel.specs.declared.Kernel.{Kernel}
-use Rattle.kernel.specs.declared.command.Command.{Command}
+use Rattle.checks.specs.declared.Command.{Command}
 use Rattle.kernel.specs.View.{view, encode}
 use Rattle.kernel.specs.Public.{isSound, said, report, shape, stepOf, stepped, runningOf, leftOf}
 use Rattle.kernel.proofs.Written.{stands, encode-sound, step-on, step-sound, refused-keeps}

@@ -14,7 +14,7 @@ use Rattle.rules.proofs.Sounds.{Sound, delay-few}
 use Rattle.rules.proofs.Step.{next-sound, fresh-sound}
 use Rattle.rules.proofs.Wakes as W
 use Rattle.kernel.specs.declared.Kernel.{Kernel}
-use Rattle.kernel.specs.declared.command.Command.{Command}
+use Rattle.checks.specs.declared.Command.{Command}
 use Rattle.kernel.specs.declared.command.Answer.{Answer}
 use Rattle.kernel.specs.View.{pad, times, encode}
 use Rattle.kernel.specs.Public.{said, runningOf, leftOf}

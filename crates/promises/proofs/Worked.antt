@@ -8,7 +8,7 @@ use Rattle.rules.specs.Refusals.{refusal}
 use Rattle.rules.specs.Sound.{sound}
 use Rattle.rules.specs.Run as rules
 use Rattle.kernel.specs.declared.Kernel.{Kernel}
-use Rattle.kernel.specs.declared.command.Command.{Command}
+use Rattle.checks.specs.declared.Command.{Command}
 use Rattle.kernel.specs.View.{encode, view, tidy}
 use Rattle.kernel.specs.Public.{isSound, stepOf, stepped}
 use Rattle.generator.specs.declared.Profile.{Profile}

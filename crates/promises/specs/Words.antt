@@ -8,7 +8,7 @@ use lib.Dec.{eqb}
 use Rattle.rules.specs.Line.{at, one-if}
 use Rattle.rules.specs.Machine.{fresh}
 use Rattle.kernel.specs.declared.Kernel.{Kernel}
-use Rattle.kernel.specs.declared.command.Command.{Command}
+use Rattle.checks.specs.declared.Command.{Command}
 use Rattle.kernel.specs.declared.command.Answer.{Answer}
 use Rattle.kernel.specs.View.{encode}
 use Rattle.kernel.specs.Public.{stepped}

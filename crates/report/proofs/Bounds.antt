@@ -9,7 +9,7 @@ use lib.Dec.{leb}
 use lib.ListN.{length, getD, length-append}
 use Rattle.rules.specs.Line.{every}
 use Rattle.rules.proofs.Tests.{both-true}
-use Rattle.kernel.specs.declared.command.Command.{Command}
+use Rattle.checks.specs.declared.Command.{Command}
 use Rattle.kernel.specs.declared.command.Answer.{Answer}
 use Rattle.decimal.proofs.BothWays.{decimal-most}
 use Rattle.text.specs.Commands.{words, said, uses-a, uses-b, uses-value, line-of}

@@ -2,7 +2,7 @@
 use Prim.Native.Nat.{ℕ, _+_, _*_, _%_, _^_, _≤_}
 use Prim.Native.String.{String}
 use mathlib.Core.List.{List, _++_}
-use Rattle.kernel.specs.declared.command.Command.{Command}
+use Rattle.checks.specs.declared.Command.{Command}
 use Rattle.kernel.specs.declared.command.Answer.{Answer}
 use Rattle.decimal.specs.Decimal.{decimal}
 use Rattle.text.specs.declared.command.Spoken.{Spoken}

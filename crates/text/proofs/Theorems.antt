@@ -10,7 +10,8 @@ use borrow.Author.Tests.{eqb-true, eqb-false, le-leb, leb-true}
 use lib.Dec.{eqb, leb}
 use lib.ListN.{length}
 use Rattle.rules.specs.Line.{all-below, one-if, empty, every}
-use Rattle.rules.specs.Refusals.{Operand, last-op, operands, unused, task, object, priority, barrier, time, ticks}
+use Rattle.rules.specs.Kinds.{last-op, kind-at}
+use Rattle.rules.specs.Refusals.{Operand, operands, never, unused, task, object, priority, barrier, time, ticks}
 use Rattle.rules.proofs.Tests.{both-true, tests-all-below, tests-and, tests-eq}
 use Rattle.text.specs.declared.command.Spoken.{Spoken}
 use Rattle.decimal.specs.Decimal.{digit, number-of, decimal}
@@ -128,6 +129,7 @@ commands-whole ps = pieces-told ps
 -- What the rules say of each op, and of what is no op, text says too: an operand is in use or it is not. (So a change of the rules' table
 -- that text does not follow is refused.)
 abbrev in-use : Operand → ℕ
+in-use never = 0
 in-use unused = 0
 in-use task = 1
 in-use object = 1
@@ -136,11 +138,11 @@ in-use barrier = 1
 in-use time = 1
 in-use ticks = 1
 
-pub same-operands : (op : ℕ) → op < suc last-op → (in-use (operands op .a) ≡ one-if (uses-a op)) × ((in-use (operands op .b) ≡ one-if (uses-b op)) × (in-use (operands op .value) ≡ one-if (uses-value op)))
+pub same-operands : (op : ℕ) → op < suc last-op → (in-use (operands (kind-at op) .a) ≡ one-if (uses-a op)) × ((in-use (operands (kind-at op) .b) ≡ one-if (uses-b op)) × (in-use (operands (kind-at op) .value) ≡ one-if (uses-value op)))
 unfolding all-below
 same-operands op h =
     tests-all-below
-    (λ n. tests-and (tests-eq (in-use (operands n .a)) (one-if (uses-a n)))
-    (tests-and (tests-eq (in-use (operands n .b)) (one-if (uses-b n))) (tests-eq (in-use (operands n .value)) (one-if (uses-value n)))))
+    (λ n. tests-and (tests-eq (in-use (operands (kind-at n) .a)) (one-if (uses-a n)))
+    (tests-and (tests-eq (in-use (operands (kind-at n) .b)) (one-if (uses-b n))) (tests-eq (in-use (operands (kind-at n) .value)) (one-if (uses-value n)))))
     (suc last-op)
     .sure refl op h
