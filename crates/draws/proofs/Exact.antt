@@ -9,11 +9,13 @@ use mathlib.Core.List.{List, [], _∷_}
 use lib.Dec.{eqb, leb, ltb}
 use lib.ListN.{getD}
 use borrow.Author.Tests.{eqb-true, ne-eqb, leb-true, le-leb, ltb-false, not-false}
+use Rattle.rules.specs.declared.Kind.the-variants.{Delaying, Opening, Entering}
 use Rattle.rules.specs.Line.{at, count, empty, within}
 use Rattle.rules.specs.Machine.{Machine, Command, runner, declared, empty-handed, for-open, for-entry}
+use Rattle.rules.specs.Kinds.{ends}
 use Rattle.rules.specs.Refusals.{refusal, holds-so}
 use Rattle.rules.proofs.Words.{cmd}
-use Rattle.rules.proofs.Tests.{both-true, both-false}
+use Rattle.rules.proofs.Tests.{both-true}
 use Rattle.rules.proofs.Sounds.{Sound}
 use Rattle.rules.proofs.Accepted.{check-passed}
 use Rattle.draws.specs.Menu.{Kind, menu, free-runner, inside, eligible, eligibles, sift, objects, span-fits}
@@ -64,23 +66,23 @@ module _ (m : Machine) (s : Sound m) (on : m .started ≡ true) (span : ℕ) (fi
   -- delay and advance, the kinds 0 and 2, look at the span
   back : (i a b v : ℕ) (k : Kind) → i < 8 → ((i ≡ 0) ⊎ (i ≡ 2) → span-fits m span ≡ true) → refusal m (cmd (i + 4) a b v) ≡ 0 → legal-at i k ≡ true
   unfolding menu
-  back zero a b v k h f ok = let p = check-passed m (cmd 4 a b v) ok in rw (free (p 7) (p 8), f (inl refl))
+  back zero a b v k h f ok = let p = check-passed m (cmd 4 a b v) Delaying refl ok in rw (free (p 7) (p 8), f (inl refl))
   back (suc zero) a b v k h f ok = refl
   back (suc (suc zero)) a b v k h f ok = f (inr refl)
   back (suc (suc (suc zero))) a b v k h f ok =
-      let p = check-passed m (cmd 7 a b v) ok in
+      let p = check-passed m (cmd 7 a b v) Opening refl ok in
       takes a (both-true (within 1 7 a) (eqb b 0) (both-true (within 1 7 a && eqb b 0) (eqb v 0) (not-false _ (p 4)) .0) .0) (p 6) (p 10) (p 11) (p 7) (p 8)
   back (suc (suc (suc (suc zero)))) a b v k h f ok =
-      let p = check-passed m (cmd 8 a b v) ok in
-      within-it a for-open (both-true (within 1 7 a) (leb b 1) (both-true (within 1 7 a && leb b 1) (eqb v 0) (not-false _ (p 4)) .0) .0) (both-false _ false (p 9) .0)
+      let p = check-passed m (cmd 8 a b v) (ends for-open true) refl ok in
+      within-it a for-open (both-true (within 1 7 a) (leb b 1) (both-true (within 1 7 a && leb b 1) (eqb v 0) (not-false _ (p 4)) .0) .0) (p 9)
   back (suc (suc (suc (suc (suc zero))))) a b v k h f ok =
-      let p = check-passed m (cmd 9 a b v) ok in
-      within-it a for-open (both-true (within 1 7 a) (eqb b 0) (both-true (within 1 7 a && eqb b 0) (eqb v 0) (not-false _ (p 4)) .0) .0) (both-false _ false (p 9) .0)
+      let p = check-passed m (cmd 9 a b v) (ends for-open false) refl ok in
+      within-it a for-open (both-true (within 1 7 a) (eqb b 0) (both-true (within 1 7 a && eqb b 0) (eqb v 0) (not-false _ (p 4)) .0) .0) (p 9)
   back (suc (suc (suc (suc (suc (suc zero)))))) a b v k h f ok =
-      let p = check-passed m (cmd 10 a b v) ok in
+      let p = check-passed m (cmd 10 a b v) Entering refl ok in
       takes a (both-true (within 1 7 a) (leb b 1) (both-true (within 1 7 a && leb b 1) (eqb v 0) (not-false _ (p 4)) .0) .0) (p 6) (p 10) (p 11) (p 7) (p 8)
   back (suc (suc (suc (suc (suc (suc (suc zero))))))) a b v k h f ok =
-      let p = check-passed m (cmd 11 a b v) ok in
+      let p = check-passed m (cmd 11 a b v) (ends for-entry true) refl ok in
       within-it a for-entry (both-true (within 1 7 a) (leb b 1) (both-true (within 1 7 a && leb b 1) (eqb v 0) (not-false _ (p 4)) .0) .0) (p 9)
   back (suc (suc (suc (suc (suc (suc (suc (suc i)))))))) a b v k h f ok = absurd (omega arith)
 
