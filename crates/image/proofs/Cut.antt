@@ -89,7 +89,7 @@ unformed c = go (leb (c .op) 255) refl (leb (c .a) 255) refl (leb (c .b) 255) re
     go : (x : Bool) → leb (c .op) 255 ≡ x → (y : Bool) → leb (c .a) 255 ≡ y → (z : Bool) → leb (c .b) 255 ≡ z → x && y && z ≡ false → rules.formed c ≡ false
     go false e y f z g q = let w : 255 < c .op = leb-false (c .op) 255 e in rw (List·getD-eq-default kinds NoKind {n = c .op} (omega arith))
     go true e false f z g q = rw (wide-a (c .a) (leb-false (c .a) 255 f) (kind c))
-    go true e true f false g q = rw (wide-b (c .b) (leb-false (c .b) 255 g) (kind c), and-false)
+    go true e true f false g q = rw (wide-b (c .b) (leb-false (c .b) 255 g) (kind c), and-false (fits (operands (kind c) .a) (c .a)))
     go true e true f true g q = absurd (true≢false q)
 
 -- Two commands that are not formed are answered alike, by 4.
