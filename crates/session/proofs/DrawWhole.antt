@@ -17,13 +17,12 @@ use Rattle.text.specs.Commands.{command-of}
 use Rattle.text.specs.FirstLine.{first-line-of}
 use Rattle.text.specs.Lines.{lines, kept, joined, last-piece, held-bytes, nothing-held, cuts, lines-of-pieces}
 use Rattle.text.specs.Printed.{draw-header, draw-line}
-use Rattle.text.proofs.Kept.{kept-says, kept-opens}
 use Rattle.text.proofs.Theorems.{lines-whole}
 use Rattle.session.specs.declared.draw.Draw.{Draw}
-use Rattle.session.specs.declared.draw.Heard.{Heard}
 use Rattle.session.specs.declared.draw.Reader.{Reader}
 use Rattle.session.specs.Told.{following, state-behind, row-for}
-use Rattle.session.specs.Draw.{zeros, starts, profile-of, spoken, draws-text, setup-text, first-text, draw-text, at-first, over-with, not-heard, opened, set-up, heard, ended, drawn-next, text-of, lines-text, lines-behind, some-text, piece-text, piece-behind, last-heard, end-text, end-behind, printed}
+use Rattle.session.specs.Draw.{Heard, zeros, starts, profile-of, spoken, draws-text, setup-text, first-text, draw-text, at-first, over-with, not-heard, opened, set-up, heard, ended, drawn-next, text-of, lines-text, lines-behind, some-text, piece-text, piece-behind, last-heard, end-text, end-behind, printed}
+use Rattle.session.proofs.Drawing.{heard-kept}
 
 -- ---- lines behind lines
 
@@ -36,10 +35,6 @@ behind-append : (d : Draw) (ls ms : List (List ℕ)) → lines-behind d (ls ++ m
 unfolding lines-behind
 behind-append d [] ms = refl
 behind-append d (l ∷ ls) ms = behind-append (heard d l .draw) ls ms
-
-heard-kept : (d : Draw) (l : List ℕ) → heard d (kept l) ≡ heard d l
-unfolding heard
-heard-kept d l = rw (kept-says l, kept-opens l)
 
 text-kept : (d : Draw) (ls : List (List ℕ)) → lines-text d (map kept ls) ≡ lines-text d ls
 unfolding lines-text

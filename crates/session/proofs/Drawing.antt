@@ -2,48 +2,49 @@
 use Prim.Native.Nat.{ℕ, zero, suc, _+_, _-_, _*_, _<_, _≤_}
 use native.Mathlib.Omega.{arith}
 use native.Mathlib.Nat.{add-zero}
-use mathlib.Core.Bool.{Bool, true, false, cond, _&&_}
-use mathlib.Core.Path.{_≡_, refl, sym, _∙_}
-use mathlib.Core.List.{List, [], _++_, append-nil}
-use borrow.Author.Tests.{le-leb, lt-leb, eq-eqb}
+use mathlib.Core.Bool.{Bool, true, false, cond, not, _&&_, _||_, true≢false}
+use mathlib.Core.Path.{_≡_, refl, sym, ap, _∙_}
+use mathlib.Core.List.{List, [], _∷_, _++_, append-nil}
+use borrow.Author.Tests.{le-leb, lt-leb, eq-eqb, ne-eqb, eqb-true}
 use lib.Dec.{eqb, leb}
 use lib.ListN.{length}
-use Rattle.generator.specs.declared.Drawn.{Drawn}
-use Rattle.generator.specs.Public.{drawnOf}
+use Rattle.kernel.specs.declared.Kernel.{Kernel}
+use Rattle.generator.specs.declared.Carried.{Carried}
+use Rattle.generator.specs.Public.{DrawsAndSteps}
 use Rattle.text.specs.declared.command.Spoken.{Spoken}
 use Rattle.text.specs.declared.print.Row.{Row}
 use Rattle.text.specs.declared.split.Held.{Held}
 use Rattle.text.specs.declared.split.Cut.{Cut}
 use Rattle.decimal.specs.Buffer.{contents-after, place-after}
-use Rattle.text.specs.Lines.{cut-of, cuts, holds-after, held-bytes, nothing-held}
+use Rattle.text.specs.Words.{before, onward}
+use Rattle.text.specs.Lines.{kept, hold-more, end-from, cut-of, cuts, holds-after, held-bytes, nothing-held}
 use Rattle.text.specs.Printed.{draw-line}
-use Rattle.session.specs.declared.tell.Told.{Told}
 use Rattle.session.specs.declared.draw.Draw.{Draw}
-use Rattle.session.specs.declared.draw.Heard.{Heard}
+use Rattle.session.specs.declared.draw.Course.{Course}
 use Rattle.session.specs.declared.draw.Reader.{Reader}
-use Rattle.session.specs.Told.{following, told}
+use Rattle.session.specs.declared.draw.Read.{Read}
+use Rattle.session.specs.Told.{following, state-behind, answer-to, row-of, Tells}
 use Rattle.session.specs.Walk.{In-front}
-use Rattle.session.specs.Draw.{spoken, set-up, heard, ended, drawn-next, shown-text, text-of, lines-text, lines-behind, some-text, some-behind, piece-text, piece-behind, fed, fed-out, last-heard, end-text, end-behind, finished, finished-out, drew, drew-out}
+use Rattle.session.specs.Draw.{Heard, zeros, spoken, as-draw, as-heard, set-by, set-up, not-heard, heard, ended, drawn-next, shown-text, text-of, lines-text, lines-behind, some-text, some-behind, piece-text, piece-behind, last-heard, end-text, end-behind, finished, finished-out, Feeds, Draws}
 use Rattle.text.proofs.Bounds.{draw-short}
+use Rattle.text.proofs.Kept.{kept-says, kept-opens}
+use Rattle.text.proofs.Pieces.{held-more}
 use Rattle.session.proofs.Front.{in-front}
 use Rattle.session.proofs.Filling.{Filling, filling-first, filling-on, filled-at, filled-out, filled-front}
+use Rattle.session.proofs.Telling.{no-byte, some-byte}
 use Rattle.session.proofs.Feeding.{cuts-whole, holds-whole}
 
--- ---- a setup line, and a draw
+-- ---- a setup line, and a draw, where the tables lie
 
-pub is-set-up : (d : Draw) (s : Spoken) (n stage : ℕ) (t : Told) → n ≡ following (d .n) → t ≡ told (d .kernel) n s
-    → stage ≡ cond (eqb (t .row .op) 3 && eqb (t .row .code) 0) 2 1
-    → record { draw = record { stage = stage; kernel = t .kernel; n = n; seed = d .seed; profile = d .profile; left = d .left }; shown = true; row = t .row } ≡ set-up d s
-unfolding set-up
-is-set-up d s n stage t en et es = rw (es, et, en)
+module _ (k k′ : Kernel) (c : Course) (n : ℕ) (row : Row) (en : n ≡ following (c .n)) where
+  pub is-set-up : (s : Spoken) → Tells k n s row k′ → set-by (as-draw k′ c) n row ≡ set-up (as-draw k c) s
+  unfolding set-up
+  is-set-up s t = rw (t .0, t .1, en)
 
-pub is-drawn : (d : Draw) (x : Drawn) (n : ℕ) (t : Told) → d .stage ≡ 2 → (d .left ≡ 0 → ⊥) → x ≡ drawnOf (d .kernel) (d .seed) (d .profile) → n ≡ following (d .n)
-    → t ≡ told (d .kernel) n (spoken x)
-    → record { draw = record { stage = 2; kernel = t .kernel; n = n; seed = x .seed; profile = d .profile; left = d .left - 1 }; shown = true; row = t .row } ≡ drawn-next d
-unfolding drawn-next
-is-drawn d x n t s z ex en et =
-    let p : 1 ≤ d .left = omega (arith, z) in
-    rw (eq-eqb (d .stage) 2 s, le-leb 1 (d .left) p, et, en, ex)
+  pub is-drawn : (x : Carried) → c .stage ≡ 2 → 1 ≤ c .left → DrawsAndSteps k (c .seed) (c .profile) x k′ → row ≡ row-of n (spoken (x .drawn)) (x .answer) (k′ .clock)
+      → as-heard k′ (record { course = record { stage = 2; n = n; seed = x .drawn .seed; profile = c .profile; left = c .left - 1 }; shown = true; row = row }) ≡ drawn-next (as-draw k c)
+  unfolding drawn-next state-behind answer-to
+  is-drawn x s o t er = rw (eq-eqb (c .stage) 2 s, le-leb 1 (c .left) o, er, t .1, t .0, en)
 
 -- ---- a row, where it is shown
 
@@ -99,8 +100,7 @@ module _ (r : Reader) (p out₀ : List ℕ) where
           })
 
     module _ (h′ : Held) (z : cuts left h p from ≡ []) (eh : holds-after left h p from ≡ h′) where
-      pub all-heard : 192 * suc (length p) ≤ length out₀
-          → (record { reader = record { draw = d; held = h′ }; at = at } ≡ fed r p out₀) × (out ≡ fed-out r p out₀) × In-front at out
+      pub all-heard : 192 * suc (length p) ≤ length out₀ → Feeds r p out₀ (record { reader = record { draw = d; held = h′ }; at = at }) out
       unfolding lines-text lines-behind
       all-heard o =
           let f : Filling 192 out₀ (piece-text r p) [] at left out = rw z at (s .filling) in
@@ -109,10 +109,45 @@ module _ (r : Reader) (p out₀ : List ℕ) where
           let l = le-leb (192 * suc (length p)) (length out₀) o in
           (rw (l, ← a, ← m), rw l (filled-out 192 out₀ (piece-text r p) at left out f), filled-front 192 out₀ (piece-text r p) at left out f)
 
-  pub no-room : length out₀ < 192 * suc (length p) → (record { reader = r; at = 0 } ≡ fed r p out₀) × (out₀ ≡ fed-out r p out₀) × In-front 0 out₀
+  pub no-room : length out₀ < 192 * suc (length p) → Feeds r p out₀ (record { reader = r; at = 0 }) out₀
   no-room o = (rw (lt-leb (192 * suc (length p)) (length out₀) o), rw (lt-leb (192 * suc (length p)) (length out₀) o), in-front 0 out₀ (omega arith))
 
 -- ---- the loop over draws
+
+-- where nothing is to be drawn, nothing is, as often as it is tried
+idle : Draw → Type 0
+idle d = (eqb (d .stage) 2 && leb 1 (d .left)) ≡ false
+
+none-drawn : (d : Draw) → idle d → (m : ℕ) → (some-text m d ≡ []) × (some-behind m d ≡ d)
+unfolding idle some-text some-behind drawn-next not-heard
+none-drawn d e zero = (refl, refl)
+none-drawn d e (suc m) = rw e (none-drawn d e m)
+
+no-zero : (n : ℕ) → eqb (suc n) 0 ≡ false
+no-zero n = ne-eqb (suc n) 0 (λ e. omega (arith, e))
+
+-- the test of it
+pub is-idle : (d : Draw) → (not (eqb (d .stage) 2) || eqb (d .left) 0) ≡ true → (m : ℕ) → (some-text m d ≡ []) × (some-behind m d ≡ d)
+unfolding idle
+is-idle d e = none-drawn d (go (eqb (d .stage) 2) (d .left) e)
+  where
+    go : (b : Bool) (n : ℕ) → (not b || eqb n 0) ≡ true → (b && leb 1 n) ≡ false
+    go false n e = refl
+    go true zero e = refl
+    go true (suc n) e = absurd (true≢false (sym (rw (no-zero n) at e)))
+
+pub not-idle : (s n : ℕ) → (not (eqb s 2) || eqb n 0) ≡ false → (s ≡ 2) × (1 ≤ n)
+not-idle s n e = go (eqb s 2) refl n e
+  where
+    go : (b : Bool) → eqb s 2 ≡ b → (n : ℕ) → (not b || eqb n 0) ≡ false → (s ≡ 2) × (1 ≤ n)
+    go false t n e = absurd (true≢false e)
+    go true t zero e = absurd (true≢false e)
+    go true t (suc n) e = (eqb-true s 2 t, omega arith)
+
+pub none-asked : (d : Draw) (left : ℕ) → left ≤ 0 → (some-text left d ≡ []) × (some-behind left d ≡ d)
+unfolding some-text some-behind
+none-asked d zero z = (refl, refl)
+none-asked d (suc left) z = absurd (omega arith)
 
 module _ (d₀ : Draw) (most : ℕ) (out₀ : List ℕ) where
   pub record Going (d : Draw) (at left : ℕ) (out : List ℕ) : Type 0 where
@@ -141,34 +176,75 @@ module _ (d₀ : Draw) (most : ℕ) (out₀ : List ℕ) where
           state = rw ex (sym (one-behind left o) ∙ s .state);
         }
 
-    pub all-drawn : left ≤ 0 → 192 * most ≤ length out₀ → (record { draw = d; at = at } ≡ drew d₀ most out₀) × (out ≡ drew-out d₀ most out₀) × In-front at out
-    unfolding some-text some-behind
+    pub all-drawn : (some-text left d ≡ []) × (some-behind left d ≡ d) → 192 * most ≤ length out₀ → Draws d₀ most out₀ (record { draw = d; at = at }) out
     all-drawn z o =
-        let e : left ≡ 0 = omega arith in
-        let f : Filling 192 out₀ (some-text most d₀) [] at 0 out = rw e at (s .filling) in
-        let a = filled-at 192 out₀ (some-text most d₀) at 0 out f in
-        let m : d ≡ some-behind most d₀ = rw e at (s .state) in
+        let f : Filling 192 out₀ (some-text most d₀) [] at left out = rw (z .0) at (s .filling) in
+        let a = filled-at 192 out₀ (some-text most d₀) at left out f in
+        let m : d ≡ some-behind most d₀ = sym (z .1) ∙ s .state in
         let l = le-leb (192 * most) (length out₀) o in
-        (rw (l, ← a, ← m), rw l (filled-out 192 out₀ (some-text most d₀) at 0 out f), filled-front 192 out₀ (some-text most d₀) at 0 out f)
+        (rw (l, ← a, ← m), rw l (filled-out 192 out₀ (some-text most d₀) at left out f), filled-front 192 out₀ (some-text most d₀) at left out f)
 
-  pub no-room-for : length out₀ < 192 * most → (record { draw = d₀; at = 0 } ≡ drew d₀ most out₀) × (out₀ ≡ drew-out d₀ most out₀) × In-front 0 out₀
+  pub no-room-for : length out₀ < 192 * most → Draws d₀ most out₀ (record { draw = d₀; at = 0 }) out₀
   no-room-for o = (rw (lt-leb (192 * most) (length out₀) o), rw (lt-leb (192 * most) (length out₀) o), in-front 0 out₀ (omega arith))
 
--- ---- the end of the input
+-- ---- the end of the input: where a line has begun, its line end is fed
+
+pub heard-kept : (d : Draw) (l : List ℕ) → heard d (kept l) ≡ heard d l
+unfolding heard
+heard-kept d l = rw (kept-says l, kept-opens l)
+
+-- a line end ends what is held, and behind it comes nothing
+one-cut : (h : Held) → cuts 2 h (10 ∷ []) 0 ≡ held-bytes (hold-more h []) ∷ []
+unfolding cuts cut-of before onward end-from
+one-cut h = refl
 
 module _ (r : Reader) (out : List ℕ) where
+  abbrev pub Ends-last : ℕ → Draw → List ℕ → Type 0
+  Ends-last at d left = (d ≡ last-heard r .draw) × (at ≡ place-after 192 out 0 (text-of (last-heard r))) × (left ≡ contents-after 192 out 0 (text-of (last-heard r)))
+
+  pub none-begun : r .held .count ≡ 0 → Ends-last 0 (r .draw) out
+  unfolding last-heard not-heard
+  none-begun z =
+      let e = no-byte (r .held .count) (r .held .bytes) z in
+      let s = shown-none out 0 false (zeros 0) refl in
+      (rw e, rw e (s .0), rw e (s .1))
+
+  module _ (z : r .held .count ≡ 0 → ⊥) (l : length (r .held .bytes) ≡ 129) (o : 384 ≤ length out) where
+    same-line : heard (r .draw) (held-bytes (hold-more (r .held) [])) ≡ last-heard r
+    unfolding last-heard
+    same-line =
+        let b = some-byte (r .held .count) (r .held .bytes) z (omega arith) in
+        rw (b, held-more (r .held) [] l, append-nil) (heard-kept (r .draw) (held-bytes (r .held)))
+
+    line-text : piece-text r (10 ∷ []) ≡ text-of (last-heard r)
+    unfolding piece-text lines-text
+    line-text = rw (one-cut (r .held), append-nil, same-line)
+
+    line-behind : piece-behind r (10 ∷ []) .draw ≡ last-heard r .draw
+    unfolding piece-behind lines-behind
+    line-behind = rw (one-cut (r .held)) (ap (λ (h : Heard). h .draw) same-line)
+
+    pub one-begun : (x : Read) (out′ : List ℕ) → Feeds r (10 ∷ []) out x out′ → Ends-last (x .at) (x .reader .draw) out′
+    one-begun x out′ f =
+        let two = le-leb 384 (length out) o in
+        let i : 0 + 192 ≤ length out = omega arith in
+        let one = le-leb (0 + 192) (length out) i in
+        let n : length (text-of (last-heard r)) ≡ 0 + length (text-of (last-heard r)) = omega arith in
+        (rw (f .0, two) line-behind, rw (f .0, two, one, line-text) n, rw (f .1, two, one, line-text))
+
   pub no-room-for-two : length out < 384 → (record { draw = r .draw; at = 0 } ≡ finished r out) × (out ≡ finished-out r out) × In-front 0 out
   no-room-for-two o = (rw (lt-leb 384 (length out) o), rw (lt-leb 384 (length out) o), in-front 0 out (omega arith))
 
-  module _ (h e : Heard) (p at : ℕ) (out₁ out₂ : List ℕ) (eh : h ≡ last-heard r) (ep : p ≡ place-after 192 out 0 (text-of h)) (e₁ : out₁ ≡ contents-after 192 out 0 (text-of h))
-      (ee : e ≡ ended (h .draw)) (ea : at ≡ place-after 192 out₁ p (text-of e)) (e₂ : out₂ ≡ contents-after 192 out₁ p (text-of e)) where
+  module _ (e : Heard) (d : Draw) (p at : ℕ) (out₁ out₂ : List ℕ) (t : Ends-last p d out₁) (ee : e ≡ ended d)
+      (ea : at ≡ place-after 192 out₁ p (text-of e)) (e₂ : out₂ ≡ contents-after 192 out₁ p (text-of e)) where
     pub both-put : 384 ≤ length out → (record { draw = e .draw; at = at } ≡ finished r out) × (out₂ ≡ finished-out r out) × In-front at out₂
     unfolding end-text end-behind
     both-put o =
+        let h = last-heard r in
         let whole = text-of h ++ text-of e in
-        let first = filling-on 192 out whole (text-of h) (text-of e) 0 2 out (filling-first 192 out whole 2 (omega arith)) (text-short h) (omega arith) p out₁ ep e₁ in
+        let first = filling-on 192 out whole (text-of h) (text-of e) 0 2 out (filling-first 192 out whole 2 (omega arith)) (text-short h) (omega arith) p out₁ (t .1) (t .2) in
         let f = filling-on 192 out whole (text-of e) [] p 1 out₁ (rw append-nil first) (text-short e) (omega arith) at out₂ ea e₂ in
         let n = filled-at 192 out whole at 0 out₂ f in
-        let t = filled-out 192 out whole at 0 out₂ f in
+        let u = filled-out 192 out whole at 0 out₂ f in
         let l = le-leb 384 (length out) o in
-        (rw (l, n, ee, eh), rw (l, t, ee, eh), filled-front 192 out whole at 0 out₂ f)
+        (rw (l, n, ee, t .0), rw (l, u, ee, t .0), filled-front 192 out whole at 0 out₂ f)

@@ -9,9 +9,9 @@ use lib.Dec.{leb}
 use lib.ListN.{length, take}
 use Rattle.rules.specs.Line.{empty}
 use Rattle.kernel.specs.declared.Kernel.{Kernel}
-use Rattle.kernel.specs.declared.Stepped.{Stepped}
 use Rattle.kernel.specs.declared.command.Answer.{Answer}
 use Rattle.kernel.specs.Public.{stepOf, runningOf}
+use Rattle.generator.specs.Public.{unmoved}
 use Rattle.text.specs.declared.command.Spoken.{Spoken}
 use Rattle.text.specs.declared.print.Row.{Row}
 use Rattle.decimal.specs.Buffer.{contents-after, place-after}
@@ -19,7 +19,7 @@ use Rattle.text.specs.Commands.{command-of}
 use Rattle.text.specs.Lines.{held-bytes}
 use Rattle.text.specs.Printed.{walk-line}
 use Rattle.session.specs.declared.walk.Walk.{Walk}
-use Rattle.session.specs.Told.{following, asked, state-behind, unmoved, answer-to, row-of, row-for, told, Tells}
+use Rattle.session.specs.Told.{following, asked, state-behind, answer-to, row-of, row-for, Tells}
 use Rattle.session.specs.Walk.{walked, last-text, In-front, finished, finished-out}
 use Rattle.text.proofs.Bounds.{walk-short}
 use Rattle.session.proofs.Front.{in-front, put-in-front}
@@ -31,25 +31,14 @@ pub no-more : (n : ℕ) → 18446744073709551615 ≤ n → n ≡ following n
 no-more n h = rw (le-ltb n 18446744073709551615 h)
 
 module _ (k : Kernel) (n : ℕ) (s : Spoken) where
-  pub says-none : (run : ℕ) → (s .code ≡ 0 → ⊥) → run ≡ runningOf k
-      → record { kernel = k; row = record { n = n; op = s .op; a = s .a; b = s .b; value = s .value; code = s .code; running = run; released = 0; clock = k .clock } } ≡ told k n s
+  pub says-none : (run : ℕ) (r : Row) → (s .code ≡ 0 → ⊥) → run ≡ runningOf k → r ≡ row-of n s (unmoved (s .code) run) (k .clock) → Tells k n s r k
   unfolding state-behind answer-to
-  says-none run z e = rw (ne-eqb (s .code) 0 z, e)
+  says-none run r z e er = (rw (ne-eqb (s .code) 0 z), rw (er, ne-eqb (s .code) 0 z, e))
 
-  pub says-one : (r : Stepped) → s .code ≡ 0 → r ≡ stepOf k (asked s)
-      → record { kernel = r .next; row = record { n = n; op = s .op; a = s .a; b = s .b; value = s .value; code = r .answer .code; running = r .answer .running .0; released = r .answer .released .0; clock = r .next .clock } } ≡ told k n s
-  unfolding state-behind answer-to
-  says-one r z e = rw (eq-eqb (s .code) 0 z, e)
-
-  -- the same of tables that are lent
-  pub lent-none : (run : ℕ) (a : Answer) (r : Row) → (s .code ≡ 0 → ⊥) → run ≡ runningOf k → a ≡ unmoved (s .code) run → r ≡ row-of n s a (k .clock) → Tells k n s r k
-  unfolding state-behind answer-to
-  lent-none run a r z e ea er = (rw (ne-eqb (s .code) 0 z), rw (er, ne-eqb (s .code) 0 z, ea, e))
-
-  pub lent-one : (k′ : Kernel) (a : Answer) (r : Row) → s .code ≡ 0 → k′ ≡ stepOf k (asked s) .next → a ≡ stepOf k (asked s) .answer → r ≡ row-of n s a (k′ .clock)
+  pub says-one : (k′ : Kernel) (a : Answer) (r : Row) → s .code ≡ 0 → k′ ≡ stepOf k (asked s) .next → a ≡ stepOf k (asked s) .answer → r ≡ row-of n s a (k′ .clock)
       → Tells k n s r k′
   unfolding state-behind answer-to
-  lent-one k′ a r z ek ea er = (rw (eq-eqb (s .code) 0 z, ek), rw (er, eq-eqb (s .code) 0 z, ek, ea))
+  says-one k′ a r z ek ea er = (rw (eq-eqb (s .code) 0 z, ek), rw (er, eq-eqb (s .code) 0 z, ek, ea))
 
 -- ---- the end of the input
 

@@ -1,6 +1,7 @@
 -- What the program draw prints: of all its input, and of its input in pieces.
 use Prim.Native.Nat.{ℕ, zero, suc, _-_, _*_}
 use mathlib.Core.Bool.{Bool, true, false, cond, _&&_}
+use mathlib.Core.Path.{_≡_}
 use mathlib.Core.List.{List, [], _∷_, _++_}
 use lib.Dec.{eqb, leb}
 use lib.ListN.{length, replicate}
@@ -15,17 +16,22 @@ use Rattle.generator.specs.Public.{drawnOf}
 use Rattle.text.specs.declared.command.Spoken.{Spoken}
 use Rattle.text.specs.declared.first.FirstLine.{FirstLine}
 use Rattle.text.specs.declared.print.Row.{Row}
+use Rattle.text.specs.declared.split.Held.{Held}
 use Rattle.decimal.specs.Buffer.{contents-after, place-after}
 use Rattle.text.specs.Commands.{command-of}
 use Rattle.text.specs.FirstLine.{first-line-of}
 use Rattle.text.specs.Lines.{lines, cuts, holds-after, held-bytes, nothing-held}
 use Rattle.text.specs.Printed.{draw-header, draw-line, header-room, draw-room}
 use Rattle.session.specs.declared.draw.Draw.{Draw}
-use Rattle.session.specs.declared.draw.Heard.{Heard}
+use Rattle.session.specs.declared.draw.Course.{Course}
+use Rattle.session.specs.declared.draw.Note.{Note}
 use Rattle.session.specs.declared.draw.Reader.{Reader}
 use Rattle.session.specs.declared.draw.Read.{Read}
 use Rattle.session.specs.declared.draw.Drew.{Drew}
+use Rattle.session.specs.declared.draw.Through.{Through}
+use Rattle.session.specs.declared.draw.Lot.{Lot}
 use Rattle.session.specs.Told.{following, state-behind, row-for}
+use Rattle.session.specs.Walk.{In-front}
 
 -- ---- of all its input
 
@@ -69,6 +75,12 @@ unfoldable pub draw-text : List ℕ → List ℕ
 draw-text input = draw-header ++ first-text (lines input)
 
 -- ---- in pieces. A draw stands at its first line (0), its setup lines (1), its draws (2), or is over (3).
+
+-- the draw behind a line or a draw, and the row that is printed for it, where it is shown
+pub record Heard : Type 0 where
+  pub draw : Draw
+  pub shown : Bool
+  pub row : Row
 
 unfoldable pub at-first : Reader
 at-first =
@@ -207,6 +219,39 @@ drew d most out = cond (roomy most out) (record { draw = some-behind most d; at 
 
 abbrev pub drew-out : Draw → ℕ → List ℕ → List ℕ
 drew-out d most out = cond (roomy most out) (sets out 0 (some-text most d)) out
+
+-- ---- of a draw whose tables are lent: they are its state, and what is passed beside them is its course
+
+abbrev pub as-draw : Kernel → Course → Draw
+as-draw k c = record { stage = c .stage; kernel = k; n = c .n; seed = c .seed; profile = c .profile; left = c .left }
+
+abbrev pub as-heard : Kernel → Note → Heard
+as-heard k x = record { draw = as-draw k (x .course); shown = x .shown; row = x .row }
+
+abbrev pub as-reader : Kernel → Course → Held → Reader
+as-reader k c h = record { draw = as-draw k c; held = h }
+
+abbrev pub as-read : Kernel → Through → Read
+as-read k t = record { reader = as-reader k (t .course) (t .held); at = t .at }
+
+abbrev pub as-drew : Kernel → Lot → Drew
+as-drew k t = record { draw = as-draw k (t .course); at = t .at }
+
+-- a setup line behind which the tables are those of d, by its number and its row
+abbrev pub set-by : Draw → ℕ → Row → Heard
+set-by d n row =
+    record {
+      draw = record { stage = cond (starts row) 2 1; kernel = d .kernel; n = n; seed = d .seed; profile = d .profile; left = d .left };
+      shown = true;
+      row = row;
+    }
+
+-- what is answered and left in the buffer, of a piece and of some draws
+abbrev pub Feeds : Reader → List ℕ → List ℕ → Read → List ℕ → Type 0
+Feeds r piece out x left = (x ≡ fed r piece out) × (left ≡ fed-out r piece out) × In-front (x .at) left
+
+abbrev pub Draws : Draw → ℕ → List ℕ → Drew → List ℕ → Type 0
+Draws d most out x left = (x ≡ drew d most out) × (left ≡ drew-out d most out) × In-front (x .at) left
 
 abbrev pub headed : List ℕ → ℕ
 headed out = place-after header-room out 0 draw-header

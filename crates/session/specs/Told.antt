@@ -7,9 +7,9 @@ use Rattle.rules.specs.Machine.{Command}
 use Rattle.kernel.specs.declared.Kernel.{Kernel}
 use Rattle.kernel.specs.declared.command.Answer.{Answer}
 use Rattle.kernel.specs.Public.{stepOf, runningOf}
+use Rattle.generator.specs.Public.{unmoved}
 use Rattle.text.specs.declared.command.Spoken.{Spoken}
 use Rattle.text.specs.declared.print.Row.{Row}
-use Rattle.session.specs.declared.tell.Told.{Told}
 
 -- Lines are numbered from 1, each one more than the last. (2^64-1 would be followed by itself: no input has so many lines.)
 abbrev pub following : ℕ → ℕ
@@ -24,9 +24,6 @@ unfoldable pub state-behind : Kernel → Spoken → Kernel
 state-behind k s = cond (eqb (s .code) 0) (stepOf k (asked s) .next) k
 
 -- it is answered with its code, the running task as it stands, and nobody released.
-abbrev pub unmoved : ℕ → ℕ → Answer
-unmoved code running = record { code = code; running = record { 0 = running }; released = record { 0 = 0 } }
-
 unfoldable pub answer-to : Kernel → Spoken → Answer
 answer-to k s = cond (eqb (s .code) 0) (stepOf k (asked s) .answer) (unmoved (s .code) (runningOf k))
 
@@ -37,9 +34,6 @@ row-of n s a clock =
 
 abbrev pub row-for : Kernel → ℕ → Spoken → Row
 row-for k n s = row-of n s (answer-to k s) (state-behind k s .clock)
-
-abbrev pub told : Kernel → ℕ → Spoken → Told
-told k n s = record { kernel = state-behind k s; row = row-for k n s }
 
 -- a line carried out where the tables lie: they are left as the state behind it, and the row is answered
 abbrev pub Tells : Kernel → ℕ → Spoken → Row → Kernel → Type 0

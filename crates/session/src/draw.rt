@@ -1,14 +1,20 @@
 // The program draw, piece by piece of its input.
+ghost use Prim.Native.Nat.{_-_, _≤_};
 ghost use mathlib.Core.Path.{_≡_};
+ghost use lib.ListN.{length};
+ghost use Rattle.kernel.specs.declared.Kernel.{Kernel};
 ghost use Rattle.session.specs.Walk.{In-front};
 ghost use Rattle.session.specs.Draw as draw;
+ghost use Rattle.kernel.specs.Step.{tables};
 ghost use Rattle.decimal.specs.Buffer.{contents-after, place-after};
 ghost use Rattle.text.specs.Lines.{held-bytes};
 ghost use Rattle.text.specs.Printed.{draw-room};
 use crate::tell::following;
-use crate::tell::tell_by_value;
+use crate::tell::row_of;
+use crate::tell::tell;
 use generator::Drawn;
 use generator::Profile;
+use generator::in_place::draw_and_step;
 use kernel::Kernel;
 use text::command::Spoken;
 use text::first::FirstLine;
@@ -32,11 +38,20 @@ pub struct Draw {
     pub left: u32,
 }
 
-// The draw behind a line or a draw, and the row that is printed for it, where it is shown.
-pub struct Heard {
-    pub draw: Draw,
-    pub shown: bool,
-    pub row: Row,
+// A draw beside its state, which is in tables that are lent.
+struct Course {
+    stage: u8,
+    n: u64,
+    seed: u32,
+    profile: Profile,
+    left: u32,
+}
+
+// The course behind a line, and the row that is printed for it, where it is shown.
+struct Note {
+    course: Course,
+    shown: bool,
+    row: Row,
 }
 
 // A draw that reads its input: with what is held of a line that has begun.
@@ -93,113 +108,162 @@ fn zeros(code: u8) -> Row
     }
 }
 
-fn over_with(code: u8, d: Draw) -> Heard
-    ensures { λ r. ⌜ r ≡ draw.over-with code d ⌝ }
+// The course of a draw; and a draw of its parts.
+fn course_of(d: Draw) -> Course
+    ensures { λ r. ⌜ draw.as-draw (d .kernel) r ≡ d ⌝ }
 {
-    let kernel = d.kernel;
     let profile = d.profile;
-    let over = Draw {
-        stage: 3,
-        kernel,
+    Course {
+        stage: d.stage,
         n: d.n,
         seed: d.seed,
         profile,
+        left: d.left,
+    }
+}
+
+fn draw_of(kernel: Kernel, c: Course) -> Draw
+    ensures { λ r. ⌜ r ≡ draw.as-draw kernel c ⌝ }
+{
+    let profile = c.profile;
+    Draw {
+        stage: c.stage,
+        kernel,
+        n: c.n,
+        seed: c.seed,
+        profile,
+        left: c.left,
+    }
+}
+
+// A line of zeros, and the draw is over.
+fn over_with(code: u8, c: Course) -> Note
+    ensures { λ r. ⌜ ((k : Kernel) → draw.as-heard k r ≡ draw.over-with code (draw.as-draw k c)) ⌝ }
+{
+    let profile = c.profile;
+    let over = Course {
+        stage: 3,
+        n: c.n,
+        seed: c.seed,
+        profile,
         left: 0,
     };
-    Heard {
-        draw: over,
+    Note {
+        course: over,
         shown: true,
         row: zeros(code),
     }
 }
 
-fn not_heard(d: Draw) -> Heard
-    ensures { λ r. ⌜ r ≡ draw.not-heard d ⌝ }
+fn not_heard(c: Course) -> Note
+    ensures { λ r. ⌜ ((k : Kernel) → draw.as-heard k r ≡ draw.not-heard (draw.as-draw k c)) ⌝ }
 {
-    Heard {
-        draw: d,
+    Note {
+        course: c,
         shown: false,
         row: zeros(0),
     }
 }
 
 // The first line.
-fn opened(d: Draw, f: FirstLine) -> Heard
-    ensures { λ r. ⌜ r ≡ draw.opened d f ⌝ }
+fn opened(c: Course, f: FirstLine) -> Note
+    ensures { λ r. ⌜ ((k : Kernel) → draw.as-heard k r ≡ draw.opened (draw.as-draw k c) f) ⌝ }
 {
     if f.code != 0 {
-        return over_with(f.code, d);
+        return over_with(f.code, c);
     }
-    let kernel = d.kernel;
     let weights = f.weights;
     let profile = Profile {
         span: f.span,
         weights,
     };
-    let ready = Draw {
+    let ready = Course {
         stage: 1,
-        kernel,
-        n: d.n,
+        n: c.n,
         seed: f.seed,
         profile,
         left: f.count,
     };
-    Heard {
-        draw: ready,
+    Note {
+        course: ready,
         shown: false,
         row: zeros(0),
     }
 }
 
-// A setup line.
-fn set_up(d: Draw, s: Spoken) -> Heard
-    ensures { λ r. ⌜ r ≡ draw.set-up d s ⌝ }
+// A setup line of this number, by the row that is printed for it: an accepted start is the last.
+fn set_up(c: Course, n: u64, row: Row) -> Note
+    ensures { λ r. ⌜ ((k : Kernel) → draw.as-heard k r ≡ draw.set-by (draw.as-draw k c) n row) ⌝ }
 {
-    let n = following(d.n);
-    let t = tell_by_value(d.kernel, n, s);
-    let kernel = t.kernel;
-    let row = t.row;
-    let profile = d.profile;
     let starts = (row.op == 3) & (row.code == 0);
-    let next = Draw {
+    let profile = c.profile;
+    let next = Course {
         stage: line::choose(starts, 2, 1),
-        kernel,
         n,
-        seed: d.seed,
+        seed: c.seed,
         profile,
-        left: d.left,
+        left: c.left,
     };
-    Heard {
-        draw: next,
+    Note {
+        course: next,
         shown: true,
         row,
     }
 }
 
-// A line, whatever the stage.
-fn hear(d: Draw, line: Held) -> Heard
-    ensures { λ r. ⌜ r ≡ draw.heard d (held-bytes line) ⌝ }
+// A line, whatever the stage: a setup line is carried out where the tables lie.
+fn hear(
+    base: &mut [u8; 32],
+    ready: &mut [u8; 32],
+    delayed: &mut [u8; 32],
+    held: &mut [u8; 32],
+    way: &mut [u8; 32],
+    until: &mut [u64; 32],
+    ceiling: &mut [u8; 8],
+    waiter: &mut [u8; 8],
+    clock: &mut u64,
+    started: &mut bool,
+    c: Course,
+    line: Held,
+) -> Note
+    ensures { λ r. ⌜ draw.as-heard (tables (now (base .exit)) (now (ready .exit)) (now (delayed .exit)) (now (held .exit)) (now (way .exit)) (now (until .exit)) (now (ceiling .exit)) (now (waiter .exit)) (now (clock .exit)) (now (started .exit))) r ≡ draw.heard (draw.as-draw (tables (now (base .entry)) (now (ready .entry)) (now (delayed .entry)) (now (held .entry)) (now (way .entry)) (now (until .entry)) (now (ceiling .entry)) (now (waiter .entry)) (now (clock .entry)) (now (started .entry))) c) (held-bytes line) ⌝ }
 {
-    if d.stage == 0 {
-        return opened(d, held_first_line(line));
+    if c.stage == 0 {
+        return opened(c, held_first_line(line));
     }
-    if d.stage == 1 {
-        return set_up(d, held_command(line));
+    if c.stage != 1 {
+        return not_heard(c);
     }
-    not_heard(d)
+    let n = following(c.n);
+    let said = held_command(line);
+    let row = tell(
+        base,
+        ready,
+        delayed,
+        held,
+        way,
+        until,
+        ceiling,
+        waiter,
+        clock,
+        started,
+        n,
+        said,
+    );
+    set_up(c, n, row)
 }
 
 // The end of the input.
-fn end(d: Draw) -> Heard
-    ensures { λ r. ⌜ r ≡ draw.ended d ⌝ }
+fn end(c: Course) -> Note
+    ensures { λ r. ⌜ ((k : Kernel) → draw.as-heard k r ≡ draw.ended (draw.as-draw k c)) ⌝ }
 {
-    if d.stage == 0 {
-        return over_with(14, d);
+    if c.stage == 0 {
+        return over_with(14, c);
     }
-    if d.stage == 1 {
-        return over_with(2, d);
+    if c.stage == 1 {
+        return over_with(2, c);
     }
-    not_heard(d)
+    not_heard(c)
 }
 
 // What is drawn, as a line would say it.
@@ -213,38 +277,6 @@ fn spoken(x: Drawn) -> Spoken
         a: c.a,
         b: c.b,
         value: c.value,
-    }
-}
-
-// One draw, where one is left.
-fn draw_next(d: Draw) -> Heard
-    ensures { λ r. ⌜ r ≡ draw.drawn-next d ⌝ }
-{
-    let left = d.left;
-    if d.stage != 2 {
-        return not_heard(d);
-    }
-    if left == 0 {
-        return not_heard(d);
-    }
-    let profile = d.profile;
-    let x = generator::draw(d.kernel, d.seed, profile);
-    let n = following(d.n);
-    let t = tell_by_value(d.kernel, n, spoken(x));
-    let kernel = t.kernel;
-    let row = t.row;
-    let next = Draw {
-        stage: 2,
-        kernel,
-        n,
-        seed: x.seed,
-        profile,
-        left: left - 1,
-    };
-    Heard {
-        draw: next,
-        shown: true,
-        row,
     }
 }
 
@@ -266,53 +298,157 @@ pub fn header(out: &mut [u8]) -> usize
 // For so many lines, 2^56, no buffer has room; and the bytes of fewer fit 64 bits.
 const MANY: usize = 72057594037927936;
 
-// A piece of input. Where out has no room for a line for each byte of the piece and one more, nothing is done.
-pub fn feed(r: Reader, piece: &[u8], out: &mut [u8]) -> Read
-    ensures { λ x. ⌜ (x ≡ draw.fed r (now (piece .entry)) (now (out .entry))) × (now (out .exit) ≡ draw.fed-out r (now (piece .entry)) (now (out .entry))) × In-front (x .at) (now (out .exit)) ⌝ }
+// What stands behind the lines of a piece, beside the tables: the course, what is held of a line that has begun, and how many bytes were printed.
+struct Through {
+    course: Course,
+    held: Held,
+    at: usize,
+}
+
+// The lines that end in a piece. Where out has no room for a line for each byte of the piece and one more, nothing is done.
+fn hear_through(
+    base: &mut [u8; 32],
+    ready: &mut [u8; 32],
+    delayed: &mut [u8; 32],
+    held: &mut [u8; 32],
+    way: &mut [u8; 32],
+    until: &mut [u64; 32],
+    ceiling: &mut [u8; 8],
+    waiter: &mut [u8; 8],
+    clock: &mut u64,
+    started: &mut bool,
+    course: Course,
+    begun: Held,
+    piece: &[u8],
+    out: &mut [u8],
+) -> Through
+    ensures { λ r. ⌜ draw.Feeds (draw.as-reader (tables (now (base .entry)) (now (ready .entry)) (now (delayed .entry)) (now (held .entry)) (now (way .entry)) (now (until .entry)) (now (ceiling .entry)) (now (waiter .entry)) (now (clock .entry)) (now (started .entry))) course begun) (now (piece .entry)) (now (out .entry)) (draw.as-read (tables (now (base .exit)) (now (ready .exit)) (now (delayed .exit)) (now (held .exit)) (now (way .exit)) (now (until .exit)) (now (ceiling .exit)) (now (waiter .exit)) (now (clock .exit)) (now (started .exit))) r) (now (out .exit)) ⌝ }
 {
+    let mut c = course;
+    let mut kept = begun;
+    let mut at = 0;
     if MANY <= piece.len() {
-        return Read { reader: r, at: 0 };
+        return Through {
+            course: c,
+            held: kept,
+            at,
+        };
     }
     if out.len() < 192 * (piece.len() + 1) {
-        return Read { reader: r, at: 0 };
+        return Through {
+            course: c,
+            held: kept,
+            at,
+        };
     }
-    let mut d = r.draw;
-    let mut held = r.held;
     let mut from = 0;
-    let mut at = 0;
     let mut left = piece.len() + 1;
     while left > 0 {
-        let c = next_line(held, piece, from);
-        held = c.held;
-        if !c.whole {
-            return Read {
-                reader: Reader { draw: d, held },
+        let cut = next_line(kept, piece, from);
+        kept = cut.held;
+        if !cut.whole {
+            return Through {
+                course: c,
+                held: kept,
                 at,
             };
         }
-        let h = hear(d, held);
-        d = h.draw;
+        let h = hear(
+            base,
+            ready,
+            delayed,
+            held,
+            way,
+            until,
+            ceiling,
+            waiter,
+            clock,
+            started,
+            c,
+            kept,
+        );
+        c = h.course;
         at = put_shown(out, at, h.shown, h.row);
-        held = held_none();
-        from = c.next;
+        kept = held_none();
+        from = cut.next;
         left -= 1;
     }
-    Read {
-        reader: Reader { draw: d, held },
+    Through {
+        course: c,
+        held: kept,
         at,
     }
 }
 
-// A last line without a line end counts if it has a byte.
-fn last_heard(r: Reader) -> Heard
-    ensures { λ x. ⌜ x ≡ draw.last-heard r ⌝ }
+// The reader behind a piece, from its parts.
+fn behind(kernel: Kernel, t: Through) -> Read
+    ensures { λ r. ⌜ r ≡ draw.as-read kernel t ⌝ }
+{
+    let held = t.held;
+    let d = draw_of(kernel, t.course);
+    Read {
+        reader: Reader { draw: d, held },
+        at: t.at,
+    }
+}
+
+// A piece of input. Where out has no room for a line for each byte of the piece and one more, nothing is done.
+pub fn feed(r: Reader, piece: &[u8], out: &mut [u8]) -> Read
+    ensures { λ x. ⌜ (x ≡ draw.fed r (now (piece .entry)) (now (out .entry))) × (now (out .exit) ≡ draw.fed-out r (now (piece .entry)) (now (out .entry))) × In-front (x .at) (now (out .exit)) ⌝ }
+{
+    let d = r.draw;
+    let k = d.kernel;
+    let mut base = k.base;
+    let mut ready = k.ready;
+    let mut delayed = k.delayed;
+    let mut held = k.held;
+    let mut way = k.way;
+    let mut until = k.until;
+    let mut ceiling = k.ceiling;
+    let mut waiter = k.waiter;
+    let mut clock = k.clock;
+    let mut started = k.started;
+    let t = hear_through(
+        &mut base,
+        &mut ready,
+        &mut delayed,
+        &mut held,
+        &mut way,
+        &mut until,
+        &mut ceiling,
+        &mut waiter,
+        &mut clock,
+        &mut started,
+        course_of(d),
+        r.held,
+        piece,
+        out,
+    );
+    let kernel = Kernel {
+        base,
+        ready,
+        delayed,
+        held,
+        way,
+        until,
+        ceiling,
+        waiter,
+        clock,
+        started,
+    };
+    behind(kernel, t)
+}
+
+// A last line without a line end counts if it has a byte: its line end is fed.
+fn last_line(r: Reader, out: &mut [u8]) -> Read
+    requires { ⌜ 384 ≤ length (now out) ⌝ }
+    ensures { λ x. ⌜ (x .reader .draw ≡ draw.last-heard r .draw) × (x .at ≡ place-after draw-room (now (out .entry)) 0 (draw.text-of (draw.last-heard r))) × (now (out .exit) ≡ contents-after draw-room (now (out .entry)) 0 (draw.text-of (draw.last-heard r))) ⌝ }
 {
     let held = r.held;
-    let d = r.draw;
     if held.count == 0 {
-        return not_heard(d);
+        return Read { reader: r, at: 0 };
     }
-    hear(d, held)
+    feed(r, b"\n", out)
 }
 
 // The end of the input: at most two lines.
@@ -323,32 +459,143 @@ pub fn finish(r: Reader, out: &mut [u8]) -> Drew
         let d = r.draw;
         return Drew { draw: d, at: 0 };
     }
-    let h = last_heard(r);
-    let first = put_shown(out, 0, h.shown, h.row);
-    let e = end(h.draw);
-    let at = put_shown(out, first, e.shown, e.row);
-    let d = e.draw;
-    Drew { draw: d, at }
+    let last = last_line(r, out);
+    let reader = last.reader;
+    let d = reader.draw;
+    let e = end(course_of(d));
+    let at = put_shown(out, last.at, e.shown, e.row);
+    let k = d.kernel;
+    Drew {
+        draw: draw_of(k, e.course),
+        at,
+    }
+}
+
+// The course behind a draw.
+fn past(c: Course, n: u64, seed: u32) -> Course
+    requires { ⌜ 1 ≤ c .left ⌝ }
+    ensures { λ r. ⌜ r ≡ record { stage = 2; n = n; seed = seed; profile = c .profile; left = c .left - 1 } ⌝ }
+{
+    let profile = c.profile;
+    Course {
+        stage: 2,
+        n,
+        seed,
+        profile,
+        left: c.left - 1,
+    }
+}
+
+// What stands behind some draws, beside the tables.
+struct Lot {
+    course: Course,
+    at: usize,
+}
+
+fn drew_of(kernel: Kernel, t: Lot) -> Drew
+    ensures { λ r. ⌜ r ≡ draw.as-drew kernel t ⌝ }
+{
+    Drew {
+        draw: draw_of(kernel, t.course),
+        at: t.at,
+    }
+}
+
+// Some draws, each with its step where the tables lie. Where out has no room for a line for each, nothing is done.
+fn draw_through(
+    base: &mut [u8; 32],
+    ready: &mut [u8; 32],
+    delayed: &mut [u8; 32],
+    held: &mut [u8; 32],
+    way: &mut [u8; 32],
+    until: &mut [u64; 32],
+    ceiling: &mut [u8; 8],
+    waiter: &mut [u8; 8],
+    clock: &mut u64,
+    started: &mut bool,
+    course: Course,
+    most: usize,
+    out: &mut [u8],
+) -> Lot
+    ensures { λ r. ⌜ draw.Draws (draw.as-draw (tables (now (base .entry)) (now (ready .entry)) (now (delayed .entry)) (now (held .entry)) (now (way .entry)) (now (until .entry)) (now (ceiling .entry)) (now (waiter .entry)) (now (clock .entry)) (now (started .entry))) course) most (now (out .entry)) (draw.as-drew (tables (now (base .exit)) (now (ready .exit)) (now (delayed .exit)) (now (held .exit)) (now (way .exit)) (now (until .exit)) (now (ceiling .exit)) (now (waiter .exit)) (now (clock .exit)) (now (started .exit))) r) (now (out .exit)) ⌝ }
+{
+    let mut c = course;
+    let mut at = 0;
+    if MANY <= most {
+        return Lot { course: c, at };
+    }
+    if out.len() < 192 * most {
+        return Lot { course: c, at };
+    }
+    let mut turns = most;
+    while turns > 0 {
+        if (c.stage != 2) | (c.left == 0) {
+            return Lot { course: c, at };
+        }
+        let x = draw_and_step(
+            base,
+            ready,
+            delayed,
+            held,
+            way,
+            until,
+            ceiling,
+            waiter,
+            clock,
+            started,
+            c.seed,
+            c.profile,
+        );
+        let drawn = x.drawn;
+        let n = following(c.n);
+        at = put_draw_line(out, at, row_of(n, spoken(drawn), x.answer, *clock));
+        c = past(c, n, drawn.seed);
+        turns -= 1;
+    }
+    Lot { course: c, at }
 }
 
 // Some draws. Where out has no room for a line for each, nothing is done.
 pub fn draw_some(d: Draw, most: usize, out: &mut [u8]) -> Drew
     ensures { λ x. ⌜ (x ≡ draw.drew d most (now (out .entry))) × (now (out .exit) ≡ draw.drew-out d most (now (out .entry))) × In-front (x .at) (now (out .exit)) ⌝ }
 {
-    if MANY <= most {
-        return Drew { draw: d, at: 0 };
-    }
-    if out.len() < 192 * most {
-        return Drew { draw: d, at: 0 };
-    }
-    let mut next = d;
-    let mut at = 0;
-    let mut left = most;
-    while left > 0 {
-        let h = draw_next(next);
-        next = h.draw;
-        at = put_shown(out, at, h.shown, h.row);
-        left -= 1;
-    }
-    Drew { draw: next, at }
+    let k = d.kernel;
+    let mut base = k.base;
+    let mut ready = k.ready;
+    let mut delayed = k.delayed;
+    let mut held = k.held;
+    let mut way = k.way;
+    let mut until = k.until;
+    let mut ceiling = k.ceiling;
+    let mut waiter = k.waiter;
+    let mut clock = k.clock;
+    let mut started = k.started;
+    let t = draw_through(
+        &mut base,
+        &mut ready,
+        &mut delayed,
+        &mut held,
+        &mut way,
+        &mut until,
+        &mut ceiling,
+        &mut waiter,
+        &mut clock,
+        &mut started,
+        course_of(d),
+        most,
+        out,
+    );
+    let kernel = Kernel {
+        base,
+        ready,
+        delayed,
+        held,
+        way,
+        until,
+        ceiling,
+        waiter,
+        clock,
+        started,
+    };
+    drew_of(kernel, t)
 }

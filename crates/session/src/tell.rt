@@ -4,16 +4,10 @@ ghost use Rattle.kernel.specs.Step.{tables};
 ghost use Rattle.session.specs.Told as told;
 use kernel::Answer;
 use kernel::Command;
-use kernel::Kernel;
 use kernel::TaskID;
 use kernel::in_place;
 use text::command::Spoken;
 use text::print::Row;
-
-pub struct Told {
-    pub kernel: Kernel,
-    pub row: Row,
-}
 
 // The number of the next line.
 pub fn following(n: u64) -> u64
@@ -23,17 +17,6 @@ pub fn following(n: u64) -> u64
         return n + 1;
     }
     n
-}
-
-// The answer to a line that says no command: its code, who runs, and nobody released.
-fn unmoved(code: u8, running: u8) -> Answer
-    ensures { λ r. ⌜ r ≡ told.unmoved code running ⌝ }
-{
-    Answer {
-        code,
-        running: TaskID(running),
-        released: TaskID(0),
-    }
 }
 
 // The row of a line, its answer, and the clock behind it.
@@ -71,8 +54,13 @@ pub fn tell(
     ensures { λ r. ⌜ told.Tells (tables (now (base .entry)) (now (ready .entry)) (now (delayed .entry)) (now (held .entry)) (now (way .entry)) (now (until .entry)) (now (ceiling .entry)) (now (waiter .entry)) (now (clock .entry)) (now (started .entry))) n s r (tables (now (base .exit)) (now (ready .exit)) (now (delayed .exit)) (now (held .exit)) (now (way .exit)) (now (until .exit)) (now (ceiling .exit)) (now (waiter .exit)) (now (clock .exit)) (now (started .exit))) ⌝ }
 {
     if s.code != 0 {
-        let answer = unmoved(s.code, line::choose(*started, ready[0], 0));
-        return row_of(n, s, answer, *clock);
+        let running = line::choose(*started, ready[0], 0);
+        let unmoved = Answer {
+            code: s.code,
+            running: TaskID(running),
+            released: TaskID(0),
+        };
+        return row_of(n, s, unmoved, *clock);
     }
     let c = Command {
         op: s.op,
@@ -94,44 +82,4 @@ pub fn tell(
         c,
     );
     row_of(n, s, answer, *clock)
-}
-
-// The same on a state by value, for draw.
-pub(crate) fn tell_by_value(k: Kernel, n: u64, s: Spoken) -> Told
-    ensures { λ r. ⌜ r ≡ told.told k n s ⌝ }
-{
-    if s.code != 0 {
-        let row = Row {
-            n,
-            op: s.op,
-            a: s.a,
-            b: s.b,
-            value: s.value,
-            code: s.code,
-            running: line::choose(k.started, k.ready[0], 0),
-            released: 0,
-            clock: k.clock,
-        };
-        return Told { kernel: k, row };
-    }
-    let r = k.step(Command {
-        op: s.op,
-        a: s.a,
-        b: s.b,
-        value: s.value,
-    });
-    let next = r.next;
-    let answer = r.answer;
-    let row = Row {
-        n,
-        op: s.op,
-        a: s.a,
-        b: s.b,
-        value: s.value,
-        code: answer.code,
-        running: answer.running.0,
-        released: answer.released.0,
-        clock: next.clock,
-    };
-    Told { kernel: next, row }
 }

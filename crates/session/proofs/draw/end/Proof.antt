@@ -10,25 +10,25 @@ over-with-requires c κs = search needs
 
 returns : tie.Need-returns
 unfolding ended
-returns c = rw (eq-eqb (c .before .before .before .args .d .stage) 0 (c .before .if1 .taken)) (c .over-with .ensures)
+returns c k = rw (eq-eqb (c .before .before .before .args .c .stage) 0 (c .before .if1 .taken)) (c .over-with .ensures k)
 
 over-with-requires-2 : tie.Need-over-with-requires-2
 over-with-requires-2 c κs = search needs
 
 returns-2 : tie.Need-returns-2
 unfolding ended
-returns-2 c =
-    let d = c .before .before .before .before .before .args .d in
-    rw (ne-eqb (d .stage) 0 (c .before .before .before .if1 .left), eq-eqb (d .stage) 1 (c .before .if2 .taken)) (c .over-with2 .ensures)
+returns-2 c k =
+    let a = c .before .before .before .before .before .args .c in
+    rw (ne-eqb (a .stage) 0 (c .before .before .before .if1 .left), eq-eqb (a .stage) 1 (c .before .if2 .taken)) (c .over-with2 .ensures k)
 
 not-heard-requires : tie.Need-not-heard-requires
 not-heard-requires c κs = search needs
 
 returns-3 : tie.Need-returns-3
 unfolding ended
-returns-3 c =
-    let d = c .before .before .before .before .before .args .d in
-    rw (ne-eqb (d .stage) 0 (c .before .before .before .if1 .left), ne-eqb (d .stage) 1 (c .before .if2 .left)) (c .not-heard .ensures)
+returns-3 c k =
+    let a = c .before .before .before .before .before .args .c in
+    rw (ne-eqb (a .stage) 0 (c .before .before .before .if1 .left), ne-eqb (a .stage) 1 (c .before .if2 .left)) (c .not-heard .ensures k)
 
 pub end-spec : {M : Type 1} → statement M
 end-spec =

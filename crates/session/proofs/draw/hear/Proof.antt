@@ -1,10 +1,16 @@
--- `session::draw::hear` meets its contract: by the stage. Assumes nothing.
+-- `session::draw::hear` meets its contract: by the stage. Only a setup line touches the tables. Assumes nothing.
 use mathlib.Core.Path.{_∙_, ap}
 use borrow.Author.Tests.{eq-eqb, ne-eqb}
-use Rattle.session.specs.Draw.{heard, opened, set-up}
 use borrow.Author.Needs.{needs}
+use Rattle.kernel.specs.declared.Kernel.{Kernel}
+use Rattle.kernel.specs.Step.{tables}
+use Rattle.session.specs.Draw.{as-draw, heard, opened, set-up}
+use Rattle.session.proofs.Drawing.{is-set-up}
 use Rattle.session.proofs.draw.hear.Statement.{statement}
 use Rattle.session.proofs.draw.hear.Tie as tie
+
+abbrev lent : tie.Start → Kernel
+lent s = tables (s .args .base .now) (s .args .ready .now) (s .args .delayed .now) (s .args .held .now) (s .args .way .now) (s .args .until .now) (s .args .ceiling .now) (s .args .waiter .now) (s .args .clock .now) (s .args .started .now)
 
 held-first-line-requires : tie.Need-held-first-line-requires
 held-first-line-requires c κs = search needs
@@ -15,30 +21,43 @@ opened-requires c κs = search needs
 returns : tie.Need-returns
 unfolding heard
 returns c =
-    let a = c .before .before .before .before .args in
-    rw (eq-eqb (a .d .stage) 0 (c .before .before .if1 .taken)) (c .opened .ensures ∙ ap (opened (a .d)) (c .before .held-first-line .ensures))
-
-held-command-requires : tie.Need-held-command-requires
-held-command-requires c κs = search needs
-
-set-up-requires : tie.Need-set-up-requires
-set-up-requires c κs = search needs
-
-returns-2 : tie.Need-returns-2
-unfolding heard
-returns-2 c =
-    let a = c .before .before .before .before .before .before .args in
-    rw (ne-eqb (a .d .stage) 0 (c .before .before .before .before .if1 .left), eq-eqb (a .d .stage) 1 (c .before .before .if2 .taken))
-    (c .set-up .ensures ∙ ap (set-up (a .d)) (c .before .held-command .ensures))
+    let s = c .before .before .before .before in
+    let a = s .args .c in
+    rw (eq-eqb (a .stage) 0 (c .before .before .if1 .taken)) (c .opened .ensures (lent s) ∙ ap (opened (as-draw (lent s) a)) (c .before .held-first-line .ensures))
 
 not-heard-requires : tie.Need-not-heard-requires
 not-heard-requires c κs = search needs
 
+returns-2 : tie.Need-returns-2
+unfolding heard
+returns-2 c =
+    let s = c .before .before .before .before .before in
+    let a = s .args .c in
+    rw (ne-eqb (a .stage) 0 (c .before .before .before .if1 .left), ne-eqb (a .stage) 1 (c .before .if2 .taken)) (c .not-heard .ensures (lent s))
+
+following-requires : tie.Need-following-requires
+following-requires c κs = search needs
+
+held-command-requires : tie.Need-held-command-requires
+held-command-requires c κs = search needs
+
+tell-requires : tie.Need-tell-requires
+tell-requires c κs = search needs
+
+set-up-requires : tie.Need-set-up-requires
+set-up-requires c κs = search needs
+
 returns-3 : tie.Need-returns-3
 unfolding heard
 returns-3 c =
-    let d = c .before .before .before .before .before .args .d in
-    rw (ne-eqb (d .stage) 0 (c .before .before .before .if1 .left), ne-eqb (d .stage) 1 (c .before .if2 .left)) (c .not-heard .ensures)
+    let told = c .before in
+    let line = told .before .before .before .before .before .before .before .before .before .before .before in
+    let number = line .before in
+    let s = number .before .before .before .before .before in
+    let a = s .args .c in
+    let up = is-set-up (lent s) _ a (number .following .result) (told .tell .result) (number .following .ensures) (line .held-command .result) (told .tell .ensures) in
+    rw (ne-eqb (a .stage) 0 (number .before .before .before .if1 .left), eq-eqb (a .stage) 1 (number .before .if2 .left))
+    (c .set-up .ensures _ ∙ up ∙ ap (set-up (as-draw (lent s) a)) (line .held-command .ensures))
 
 pub hear-spec : {M : Type 1} → statement M
 hear-spec =
@@ -47,8 +66,10 @@ hear-spec =
     held-first-line-requires
     opened-requires
     returns
-    held-command-requires
-    set-up-requires
-    returns-2
     not-heard-requires
+    returns-2
+    following-requires
+    held-command-requires
+    tell-requires
+    set-up-requires
     returns-3)

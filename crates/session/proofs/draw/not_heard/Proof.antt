@@ -9,7 +9,7 @@ zeros-requires c κs = search needs
 
 returns : tie.Need-returns
 unfolding not-heard
-returns c = rw (c .zeros .ensures)
+returns c k = rw (c .zeros .ensures)
 
 pub not-heard-spec : {M : Type 1} → statement M
 not-heard-spec = tie.close (tie.spec zeros-requires returns)

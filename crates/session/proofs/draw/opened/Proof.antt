@@ -10,14 +10,14 @@ over-with-requires c κs = search needs
 
 returns : tie.Need-returns
 unfolding opened
-returns c = rw (ne-eqb (c .before .before .before .args .f .code) 0 (c .before .if1 .taken)) (c .over-with .ensures)
+returns c k = rw (ne-eqb (c .before .before .before .args .f .code) 0 (c .before .if1 .taken)) (c .over-with .ensures k)
 
 zeros-requires : tie.Need-zeros-requires
 zeros-requires c κs = search needs
 
 returns-2 : tie.Need-returns-2
 unfolding opened
-returns-2 c = rw (eq-eqb (c .before .before .before .before .before .args .f .code) 0 (c .before .before .before .if1 .left), c .zeros .ensures)
+returns-2 c k = rw (eq-eqb (c .before .before .before .before .args .f .code) 0 (c .before .before .if1 .left), c .zeros .ensures)
 
 pub opened-spec : {M : Type 1} → statement M
 opened-spec = tie.close (tie.spec over-with-requires returns zeros-requires returns-2)

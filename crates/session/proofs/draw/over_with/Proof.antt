@@ -9,7 +9,7 @@ zeros-requires c κs = search needs
 
 returns : tie.Need-returns
 unfolding over-with
-returns c = rw (c .zeros .ensures)
+returns c k = rw (c .zeros .ensures)
 
 pub over-with-spec : {M : Type 1} → statement M
 over-with-spec = tie.close (tie.spec zeros-requires returns)

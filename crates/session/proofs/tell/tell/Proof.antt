@@ -1,7 +1,7 @@
 -- `session::tell::tell` meets its contract: the line says no command, and the tables stay, or it is a step of theirs. Assumes nothing.
 use borrow.Author.Needs.{needs}
 use Rattle.kernel.specs.Step.{tables}
-use Rattle.session.proofs.Telling.{lent-none, lent-one}
+use Rattle.session.proofs.Telling.{says-none, says-one}
 use Rattle.session.proofs.tell.tell.Statement.{statement}
 use Rattle.session.proofs.tell.tell.Tie as tie
 
@@ -11,19 +11,15 @@ element-copy-out-choose c = search needs
 choose-requires : tie.Need-choose-requires
 choose-requires c κs = search needs
 
-unmoved-requires : tie.Need-unmoved-requires
-unmoved-requires c κs = search needs
-
 row-of-requires : tie.Need-row-of-requires
 row-of-requires c κs = search needs
 
 returns : tie.Need-returns
 returns c =
-    let a = c .before .before .before .before .before .before .before .args in
+    let a = c .before .before .before .before .before .before .args in
     let k = tables (a .base .now) (a .ready .now) (a .delayed .now) (a .held .now) (a .way .now) (a .until .now) (a .ceiling .now) (a .waiter .now) (a .clock .now) (a .started .now) in
-    let run = c .before .before .before .choose in
-    let answer = c .before .before .unmoved in
-    lent-none k (a .n) (a .s) (run .result) (answer .result) (c .row-of .result) (c .before .before .before .before .before .if1 .taken) (run .ensures) (answer .ensures) (c .row-of .ensures)
+    let run = c .before .before .choose in
+    says-none k (a .n) (a .s) (run .result) (c .row-of .result) (c .before .before .before .before .if1 .taken) (run .ensures) (c .row-of .ensures)
 
 step-requires : tie.Need-step-requires
 step-requires c κs = search needs
@@ -37,7 +33,7 @@ returns-2 c =
     let test = c .before .before .before .before .before .before .before .before .before .before .before .before .before in
     let a = test .before .before .args in
     let k = tables (a .base .now) (a .ready .now) (a .delayed .now) (a .held .now) (a .way .now) (a .until .now) (a .ceiling .now) (a .waiter .now) (a .clock .now) (a .started .now) in
-    lent-one k (a .n) (a .s) _ (step .result) (c .row-of2 .result) (test .if1 .left) (step .ensures .0) (step .ensures .1) (c .row-of2 .ensures)
+    says-one k (a .n) (a .s) _ (step .result) (c .row-of2 .result) (test .if1 .left) (step .ensures .0) (step .ensures .1) (c .row-of2 .ensures)
 
 pub tell-spec : {M : Type 1} → statement M
-tell-spec = tie.close (tie.spec element-copy-out-choose choose-requires unmoved-requires row-of-requires returns step-requires row-of-requires-2 returns-2)
+tell-spec = tie.close (tie.spec element-copy-out-choose choose-requires row-of-requires returns step-requires row-of-requires-2 returns-2)
