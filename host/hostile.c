@@ -53,10 +53,10 @@ struct lent {
 };
 static struct lent *lent, *only_read, left;
 
-static void judge_packed(const char *what, size_t length, uint32_t answer, uint32_t packed)
+static void judge_packed(const char *what, size_t length, uint64_t answer, uint64_t packed)
 {
     if (answer != packed || memcmp(area, expected, AREA) != 0) {
-        printf("call %lu, %s of %zu bytes: answer %" PRIu32 ", expected %" PRIu32 "%s\n", calls, what, length, answer, packed,
+        printf("call %lu, %s of %zu bytes: answer %" PRIu64 ", expected %" PRIu64 "%s\n", calls, what, length, answer, packed,
                memcmp(area, expected, AREA) ? ", other bytes than expected" : "");
         exit(1);
     }
@@ -109,26 +109,48 @@ static void try_left(uint8_t *image, size_t length, uint64_t task)
     judge("wakes left", length, rvn_wakes_left(at(image, 0), length, task), want);
 }
 
-/* The seed is in `lent` already, and so are the weights, unless none are lent. */
-static struct draft try_draw(uint8_t *image, size_t length, uint64_t span, size_t count)
+/* What is drawn is accepted: it steps the machine. */
+static uint64_t carry_out(struct machine *m, struct draft d)
+{
+    struct reply done = step(m, d.op, d.a, d.b, d.value);
+    if (done.code != 0) {
+        printf("call %lu: a drawn command is refused\n", calls);
+        exit(1);
+    }
+    if (done.released)
+        releases[d.op]++;
+    return done.running * UINT64_C(256) + done.released * UINT64_C(65536);
+}
+
+/* A draw, or a draw with its step. The seed is in `lent` already, and so are the weights, unless none are lent. */
+static struct draft try_draw(uint8_t *image, size_t length, uint64_t span, size_t count, int carried)
 {
     struct machine m;
     struct draft want = {1, 0, 0, 0, 0, lent->seed[1]};
     const uint32_t *weights = count ? only_read->weights + 1 : NULL;
+    uint64_t stepped = 0, answer;
     memcpy(&left, lent, sizeof left);
     if (read_image(&m, image, length))
         want = drawn(&m, lent->seed[1], span, weights, count);
     if (want.code == 0) {
         left.value[1] = want.value;
         drawn_ops[want.op]++;
+        if (carried) {
+            stepped = carry_out(&m, want);
+            write_image(&m, expected + (image - area));
+        }
     }
     left.seed[1] = want.seed;
     struct lent *numbers = want.code == 0 ? lent : only_read;
-    watch("draw", length);
-    judge_packed("draw", length, rvn_draw(at(image, 0), length, &numbers->seed[1], span, weights, count, &numbers->value[1]),
-                 (uint32_t)(want.code + 256 * want.op + 65536 * want.a + 16777216 * want.b));
+    const char *what = carried ? "draw and step" : "draw";
+    watch(what, length);
+    if (carried)
+        answer = rvn_draw_step(at(image, want.code == 0), length, &numbers->seed[1], span, weights, count, &numbers->value[1]);
+    else
+        answer = rvn_draw(at(image, 0), length, &numbers->seed[1], span, weights, count, &numbers->value[1]);
+    judge_packed(what, length, answer, want.code + 256 * want.op + 65536 * want.a + 16777216 * want.b + (stepped << 32));
     if (memcmp(lent, &left, sizeof left) != 0) {
-        printf("call %lu, draw of %zu bytes: another seed, weights or value than expected\n", calls, length);
+        printf("call %lu, %s of %zu bytes: another seed, weights or value than expected\n", calls, what, length);
         exit(1);
     }
     return want;
@@ -183,7 +205,7 @@ static void step_somehow(uint8_t *image, size_t length)
 }
 
 /* Mostly a good seed and a good profile, and guards that are anything. */
-static struct draft draw_somehow(uint8_t *image, size_t length)
+static struct draft draw_somehow(uint8_t *image, size_t length, int carried)
 {
     uint64_t span = one_in(40) ? 1000001 + below(2) : one_in(40) ? 0 : one_in(20) ? 1000000 : one_in(60) ? draw() : 1 + below(100);
     size_t count = one_in(30) ? below(MOST_WEIGHTS + 1) : RVN_WEIGHTS;
@@ -200,14 +222,15 @@ static struct draft draw_somehow(uint8_t *image, size_t length)
     }
     if (one_in(40))
         lent->seed[1] = 0;
-    return try_draw(image, length, span, count);
+    return try_draw(image, length, span, count, carried);
 }
 
-/* What is drawn is accepted, as it was drawn. */
+/* What is drawn is accepted, as it was drawn: by a call of its own, or by the same. */
 static void draw_and_step(uint8_t *image)
 {
-    struct draft d = draw_somehow(image, 512);
-    if (d.code == 0 && try_step(image, 512, d.op, d.a, d.b, d.value) != 0) {
+    int carried = one_in(2);
+    struct draft d = draw_somehow(image, 512, carried);
+    if (!carried && d.code == 0 && try_step(image, 512, d.op, d.a, d.b, d.value) != 0) {
         printf("call %lu: a drawn command is refused\n", calls);
         exit(1);
     }
@@ -221,7 +244,7 @@ static void call_somehow(uint8_t *image, size_t length)
     else if (which <= 2)
         try_left(image, length, operand(32));
     else if (which <= 5)
-        draw_somehow(image, length);
+        draw_somehow(image, length, one_in(2));
     else
         step_somehow(image, length);
 }
@@ -295,9 +318,11 @@ static void call_with_null(void)
     try_fresh(NULL, 0);
     try_left(NULL, 0, 1);
     lent->seed[1] = 1;
-    try_draw(NULL, 0, 100, 0);
     forge(bytes, 1, ALL);
-    try_draw(lend(bytes, 512), 512, 100, 0);
+    for (int carried = 0; carried < 2; carried++) {
+        try_draw(NULL, 0, 100, 0, carried);
+        try_draw(lend(bytes, 512), 512, 100, 0, carried);
+    }
 }
 
 /* ---- the table of kernel_cases, which crates/kernel_cases/src/main.rt describes */
@@ -326,7 +351,8 @@ static void try_state(const uint8_t *bytes, int is_sound, const char *line)
     try_step(lend(bytes, 512), 512, RVN_ADVANCE, 0, 0, 0);
     try_step(lend(bytes, 512), 512, 0, 0, 0, 0);
     try_left(lend(bytes, 512), 512, 1);
-    draw_somehow(lend(bytes, 512), 512);
+    draw_somehow(lend(bytes, 512), 512, 0);
+    draw_somehow(lend(bytes, 512), 512, 1);
     try_fresh(lend(bytes, 512), 512);
 }
 
@@ -423,7 +449,8 @@ int main(int argc, char **argv)
             try_step(lend(from, length), length, RVN_WAKE, 0, 0, 0);
             uint64_t task = 1 + below(31);
             try_left(lend(from, length), length, task);
-            draw_somehow(lend(from, length), length);
+            draw_somehow(lend(from, length), length, 0);
+            draw_somehow(lend(from, length), length, 1);
             try_fresh(lend(from, length), length);
         }
     }
@@ -438,7 +465,7 @@ int main(int argc, char **argv)
             if (value % 4 == 0)
                 try_left(image, 512, operand(32));
             else if (value % 4 == 1)
-                draw_somehow(image, 512);
+                draw_somehow(image, 512, value % 8 == 1);
             else
                 step_somehow(image, 512);
         }

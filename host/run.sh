@@ -37,7 +37,7 @@ library() {
         tail "$out/$1.log" >&2
         fail "rt staticlib $1 failed; the whole of what it said is in target/host/$1.log"
     fi
-    sed -n 's/^uint32_t \(rvn_[a-z_]*\)(.*/\1/p' "$here/$2" | sort >"$out/$1.declared"
+    sed -n 's/^uint[0-9]*_t \(rvn_[a-z_]*\)(.*/\1/p' "$here/$2" | sort >"$out/$1.declared"
     $nm -g --defined-only "$libs/lib$1.a" | awk 'NF == 3 { print $3 }' | sort >"$out/$1.exported"
     diff "$out/$1.declared" "$out/$1.exported" >&2 || fail "library $1 exports other functions (>) than host/$2 declares (<)"
     if $nm -u "$libs/lib$1.a" | awk 'NF == 2 { print $2 }' | sort -u | grep -vx 'memcpy\|memmove\|memset\|memcmp' >"$out/$1.wanted"; then
@@ -69,6 +69,8 @@ runs() {
 }
 runs walk
 runs draw
+# The same for many commands: each in one call and in two, and it fails where these differ.
+$run "$out/draw" 20000 >"$out/draw.many" || { tail -n 1 "$out/draw.many" >&2; fail "host/draw.c failed, as it says above"; }
 runs hostile "$root/crates/kernel_cases/stdin"
 runs hostile_tapes
 runs stack

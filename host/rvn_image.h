@@ -112,6 +112,23 @@ uint32_t rvn_wakes_left(const uint8_t *image, size_t length, uint64_t task);
  */
 uint32_t rvn_draw(const uint8_t *image, size_t length, uint32_t *seed, uint64_t span, const uint32_t *weights, size_t count, uint64_t *value);
 
+/*
+ * Draws a command for the machine of an image and carries it out: what rvn_draw, and then rvn_step of what it drew, do in two calls, with one test of
+ * the state. The answer is that of rvn_draw + 4294967296 * that of rvn_step: RVN_DRAWN and RVN_STEPPED take it apart, and the parts of those are read
+ * as theirs are. A drawn command is accepted, so the step's code is 0 always. A refusal, 1, 17, 18 or 2, answers its code alone, so that running
+ * and released are 0 in it, and leaves the image, *seed and *value.
+ *
+ *   image    of a machine: afterwards of the machine after the step; a refusal leaves every byte as it was
+ *   length, seed, span, weights, count, value    as those of rvn_draw
+ *
+ * The bytes of image, *seed, weights and *value may not overlap.
+ */
+uint64_t rvn_draw_step(uint8_t *image, size_t length, uint32_t *seed, uint64_t span, const uint32_t *weights, size_t count, uint64_t *value);
+
+/* The two answers of rvn_draw_step. */
+#define RVN_DRAWN(answer) ((uint32_t)(answer))           /* what is drawn, as rvn_draw answers it */
+#define RVN_STEPPED(answer) ((uint32_t)((answer) >> 32)) /* its step, as rvn_step answers it; 0 where the draw is refused */
+
 /* The parts of an answer. */
 #define RVN_CODE(answer) ((answer) & 255u)
 #define RVN_RUNNING(answer) (((answer) >> 8) & 255u)   /* the running task after the step, 0 before start */

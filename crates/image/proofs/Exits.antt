@@ -4,7 +4,8 @@ use mathlib.Core.Path.{_≡_, refl, sym, ap, _∙_}
 use mathlib.Core.Logic.{_≢_}
 use mathlib.Core.List.{List}
 use mathlib.Core.Bool.{Bool, true, false, cond, _&&_}
-use Prim.Native.Nat.{ℕ}
+use Prim.Native.Nat.{ℕ, _+_, _*_}
+use native.Mathlib.Nat.{add-zero}
 use lib.ListN.{length}
 use native.Mathlib.Omega.{arith}
 use lib.Dec.{eqb}
@@ -14,15 +15,16 @@ use Rattle.rules.proofs.Tests.{both-true}
 use Rattle.kernel.specs.declared.Kernel.{Kernel}
 use Rattle.kernel.specs.declared.Stepped.{Stepped}
 use Rattle.kernel.specs.declared.command.Answer.{Answer}
-use Rattle.kernel.specs.Public.{isSound, report, shape, stepOf, leftOf}
+use Rattle.kernel.specs.Public.{isSound, report, shape, said, stepOf, leftOf}
 use Rattle.layout.specs.Layout.{imageOf, kernelOf, clean, formed, isImage}
 use Rattle.generator.specs.declared.Profile.{Profile}
 use Rattle.generator.specs.declared.Drawn.{Drawn}
-use Rattle.generator.specs.Public.{drawnOf, refusedOf}
+use Rattle.generator.specs.declared.Carried.{Carried}
+use Rattle.generator.specs.Public.{drawnOf, refusedOf, behindDraw, answerTo, carriedOf}
 use Rattle.generator.proofs.Shipped.{refused-leaves}
-use Rattle.image.specs.Calls.{fitted, packed, packedLeft, stepAnswer, stepImage, leftAnswer, toldProfile, drawOn, packedDrawn, drawAnswer, drawSeed, drawValue}
-use Rattle.image.specs.Tables.{stepRead, kept}
-use Rattle.image.proofs.Cut.{asked}
+use Rattle.image.specs.Calls.{fitted, packed, packedLeft, stepAnswer, stepImage, leftAnswer, toldProfile, fittedProfile, drawOn, packedDrawn, drawAnswer, drawSeed, drawValue, drawStepAnswer, drawStepImage}
+use Rattle.image.specs.Tables.{stepRead, kept, drawnRead, behindRead}
+use Rattle.image.proofs.Cut.{asked, asked-draw}
 
 -- Bytes of which no state is read are no image; of others the state decides.
 unformed : (s : List ℕ) → formed s ≡ false → isImage s ≡ false
@@ -72,14 +74,21 @@ module _ (s : List ℕ) (k : Kernel) (c : Command) where
       go true h true e = rw (h, image-sound s h, e, eq-eqb (length s) 512 (formed-size s h))
       go true h false e = rw (h, image-sound s h, e, unsound (kernelOf s) c e)
 
+-- tables and answers that are the same
+pub same-kept : {t u : Kernel} {a b : Answer} (s : List ℕ) → t ≡ u → a ≡ b → kept s t a ≡ kept s u b
+same-kept {t = t} {b = b} s e f = ap (kept s t) f ∙ ap (λ (j : Kernel). kept s j b) e
+
+pub same-carried : {d e : Drawn} {a b : Answer} → d ≡ e → a ≡ b → carriedOf d a ≡ carriedOf e b
+same-carried p q = cc
+
 -- The tables t and the answer a that the step of a command d that fits leaves: packed, and laid out.
-module _ {t : Kernel} {a : Answer} {d : Command} (s : List ℕ) (k : Kernel) (c : Command) (fits : d ≡ fitted c) (left : t ≡ stepRead s k d .next) (said : a ≡ stepRead s k d .answer) where
+module _ {t : Kernel} {a : Answer} {d : Command} (s : List ℕ) (k : Kernel) (c : Command) (fits : d ≡ fitted c) (left : t ≡ stepRead s k d .next) (replied : a ≡ stepRead s k d .answer) where
   pub step-ends : (packed a ≡ stepAnswer s c) × (kept s t a ≡ stepImage s c)
   step-ends =
       let e = asked s k c fits in
-      let x = said ∙ ap (λ (r : Stepped). r .answer) e in
+      let x = replied ∙ ap (λ (r : Stepped). r .answer) e in
       let y = left ∙ ap (λ (r : Stepped). r .next) e in
-      (ap packed x ∙ step-answered s k c, ap (kept s t) x ∙ ap (λ (j : Kernel). kept s j (stepRead s k c .answer)) y ∙ step-left s k c)
+      (ap packed x ∙ step-answered s k c, same-kept s y x ∙ step-left s k c)
 
 -- The question.
 module _ (s : List ℕ) (t : ℕ) where
@@ -141,3 +150,75 @@ module _ (s : List ℕ) (seed span : ℕ) (weights : List ℕ) (value : ℕ) {r 
   pub accepted-draw : d .code ≡ 0 → (r ≡ drawAnswer s seed span weights) × (d .seed ≡ drawSeed s seed span weights) × (d .command .value ≡ drawValue s seed span weights value)
   unfolding drawSeed drawValue
   accepted-draw e = (packed-so, ap (λ (x : Drawn). x .seed) drawing, rw (eq-eqb (found .code) 0 (sym code-so ∙ e)) (ap (λ (x : Drawn). x .command .value) drawing))
+
+-- A draw with its step of what is read: what is drawn is the draw's, what is left is the step's of that command, and so is the answer.
+pub drawn-so : (s : List ℕ) (seed : ℕ) (p : Profile) → drawnRead s seed p .drawn ≡ drawOn s seed p
+drawn-so s seed p = go (formed s) refl
+  where
+    go : (b : Bool) → formed s ≡ b → drawnRead s seed p .drawn ≡ drawOn s seed p
+    go true h = rw h (answered-draw s seed p h)
+    go false h = rw h (none-draw s seed p h)
+
+-- where the state is read, and a command is drawn
+module _ (s : List ℕ) (seed : ℕ) (p : Profile) (h : formed s ≡ true) where
+  abbrev drawn-there : Drawn
+  drawn-there = drawnOf (kernelOf s) seed p
+
+  left-there : (b : Bool) → eqb (drawn-there .code) 0 ≡ b
+      → kept s (behindDraw (kernelOf s) drawn-there) (answerTo (kernelOf s) drawn-there) ≡ cond (eqb (drawn-there .code) 0) (stepImage s (said (drawn-there .command))) s
+  left-there true e = rw e (rw h at (step-left s (kernelOf s) (said (drawn-there .command))))
+  left-there false e = rw (e, e)
+
+  answer-there : drawn-there .code ≡ 0 → packed (answerTo (kernelOf s) drawn-there) ≡ stepAnswer s (said (drawn-there .command))
+  answer-there e = rw (eq-eqb (drawn-there .code) 0 e) (rw h at (step-answered s (kernelOf s) (said (drawn-there .command))))
+
+left-so : (s : List ℕ) (k : Kernel) (seed : ℕ) (p : Profile)
+    → let d = drawOn s seed p in kept s (behindRead s k seed p) (drawnRead s seed p .answer) ≡ cond (eqb (d .code) 0) (stepImage s (said (d .command))) s
+left-so s k seed p = go (formed s) refl
+  where
+    go : (b : Bool) → formed s ≡ b
+        → let d = drawOn s seed p in kept s (behindRead s k seed p) (drawnRead s seed p .answer) ≡ cond (eqb (d .code) 0) (stepImage s (said (d .command))) s
+    go true h = rw (h, ← answered-draw s seed p h) (left-there s seed p h (eqb (drawnOf (kernelOf s) seed p .code) 0) refl)
+    go false h = rw (h, ← none-draw s seed p h)
+
+said-so : (s : List ℕ) (seed : ℕ) (p : Profile) → drawOn s seed p .code ≡ 0 → packed (drawnRead s seed p .answer) ≡ stepAnswer s (said (drawOn s seed p .command))
+said-so s seed p = go (formed s) refl
+  where
+    go : (b : Bool) → formed s ≡ b → drawOn s seed p .code ≡ 0 → packed (drawnRead s seed p .answer) ≡ stepAnswer s (said (drawOn s seed p .command))
+    go true h e = rw (h, ← answered-draw s seed p h) (answer-there s seed p h (ap (λ (d : Drawn). d .code) (answered-draw s seed p h) ∙ e))
+    go false h e = let z : _≡_ {A = ℕ} 1 0 = ap (λ (d : Drawn). d .code) (none-draw s seed p h) ∙ e in absurd (omega arith)
+
+-- What the call answers, and the image, the seed and the value that it leaves.
+module _ (s : List ℕ) (k : Kernel) (seed span : ℕ) (weights : List ℕ) (value : ℕ) {p : Profile} {r : Carried} {t : List ℕ} (fits : p ≡ fittedProfile span weights)
+    (carried : r ≡ drawnRead s seed p) (left : t ≡ kept s (behindRead s k seed p) (drawnRead s seed p .answer)) where
+  same-draw : drawOn s seed p ≡ drawOn s seed (toldProfile span weights)
+  same-draw = asked-draw s seed span weights refl fits
+
+  drawing : r .drawn ≡ drawOn s seed (toldProfile span weights)
+  drawing = ap (λ (c : Carried). c .drawn) carried ∙ drawn-so s seed p ∙ same-draw
+
+  image-so : t ≡ drawStepImage s seed span weights
+  unfolding drawStepImage
+  image-so = left ∙ left-so s k seed p ∙ ap (λ (d : Drawn). cond (eqb (d .code) 0) (stepImage s (said (d .command))) s) same-draw
+
+  pub refused-draw-step : {n : ℕ} → r .drawn .code ≢ 0 → n ≡ packedDrawn (r .drawn)
+      → (n ≡ drawStepAnswer s seed span weights) × (t ≡ drawStepImage s seed span weights) × (seed ≡ drawSeed s seed span weights) × (value ≡ drawValue s seed span weights value)
+  unfolding drawStepAnswer
+  refused-draw-step z e =
+      let w = refused-draw s seed span weights value e drawing z in
+      let found = drawOn s seed (toldProfile span weights) in
+      let none = ne-eqb (found .code) 0 (λ q. z (ap (λ (d : Drawn). d .code) drawing ∙ q)) in
+      (e ∙ ap packedDrawn drawing ∙ rw none (sym (add-zero (packedDrawn found))), image-so, w .1, w .2)
+
+  pub accepted-draw-step : {n : ℕ} → r .drawn .code ≡ 0 → n ≡ packedDrawn (r .drawn) + 4294967296 * packed (r .answer)
+      → (n ≡ drawStepAnswer s seed span weights) × (t ≡ drawStepImage s seed span weights) × (r .drawn .seed ≡ drawSeed s seed span weights) × (r .drawn .command .value ≡ drawValue s seed span weights value)
+  unfolding drawStepAnswer
+  accepted-draw-step z e =
+      let w = accepted-draw s seed span weights value refl drawing z in
+      let found = drawOn s seed (toldProfile span weights) in
+      let made : found .code ≡ 0 = ap (λ (d : Drawn). d .code) (sym drawing) ∙ z in
+      let said-there = ap (λ (c : Carried). packed (c .answer)) carried ∙ said-so s seed p (ap (λ (d : Drawn). d .code) same-draw ∙ made) ∙ ap (λ (d : Drawn). stepAnswer s (said (d .command))) same-draw in
+      (e ∙ both (ap packedDrawn drawing) said-there ∙ rw (eq-eqb (found .code) 0 made), image-so, w .1, w .2)
+    where
+      both : {a b c d : ℕ} → a ≡ b → c ≡ d → a + 4294967296 * c ≡ b + 4294967296 * d
+      both x y = cc

@@ -2,6 +2,7 @@
 -- another. `imageOf` and `isImage` are in specs/Layout, the calls in specs/Calls; crates/image/src says that the calls are these. Assumes nothing.
 use Prim.Native.Nat.{ℕ, zero, suc, _+_, _*_, _/_, _%_, _<_, _^_}
 use native.Mathlib.Omega.{arith}
+use native.Mathlib.Nat.{add-zero}
 use mathlib.Core.Path.{_≡_, refl, sym, ap, _∙_, subst}
 use mathlib.Core.Logic.{_≢_}
 use mathlib.Core.Bool.{Bool, true, false, cond, not, _&&_, true≢false}
@@ -33,7 +34,7 @@ use Rattle.generator.specs.Public.{profileOf, toldDrawn, refusedOf, drawnIn, dr
 use Rattle.draws.proofs.Theorems.{drawn-is-fine}
 use Rattle.generator.proofs.Shipped.{code-in-order, drawn-accepted, draws-39}
 use Rattle.layout.specs.Layout.{imageOf, kernelOf, clean, formed, isImage}
-use Rattle.image.specs.Calls.{told, packed, stepAnswer, stepImage, freshAnswer, freshImage, toldProfile, drawOn, packedDrawn, drawAnswer, drawSeed, drawValue}
+use Rattle.image.specs.Calls.{told, packed, stepAnswer, stepImage, freshAnswer, freshImage, toldProfile, drawOn, packedDrawn, drawAnswer, drawSeed, drawValue, drawStepAnswer, drawStepImage}
 use Rattle.image.proofs.Exits.{left-alone}
 use Rattle.layout.proofs.RoundTrip.{Bytes, image-size, image-back, bytes-are}
 
@@ -221,6 +222,33 @@ module _ (s : List ℕ) (seed span : ℕ) (weights : List ℕ) (value : ℕ) whe
       let other : found .code ≢ 0 = λ e. n (code-of ∙ e) in
       let q = left-alone s seed p other in
       (omega (arith, small, ap packedDrawn q), ap (λ (d : Drawn). d .seed) q, rw (ne-eqb (found .code) 0 other))
+
+  -- ## A draw with its step is the draw, and then the step of what it drew
+  -- Its answer is the draw's + 4294967296 * that of the step for the op, a and b that the draw's answer holds and the value that it left, and the
+  -- image afterwards is that step's. A refused one answers as the draw does, and leaves the image. (The seed and the value are the draw's by contract.)
+  -- Rules out: another command stepped than is told, an image that is not the step's, a refusal that steps. Leaves: what a draw and a step are.
+  pub draw-step-is : drawAnswer s seed span weights % 256 ≡ 0
+      → let r = drawAnswer s seed span weights in let c = told (r / 256 % 256) (r / 65536 % 256) (r / 16777216) (drawValue s seed span weights value) in
+      (drawStepAnswer s seed span weights ≡ r + 4294967296 * stepAnswer s c) × (drawStepImage s seed span weights ≡ stepImage s c)
+  unfolding drawAnswer drawValue drawStepAnswer drawStepImage
+  draw-step-is e =
+      let p = toldProfile span weights in
+      let done : found .code ≡ 0 = sym code-of ∙ e in
+      let q = of-image s seed p done in
+      let made : drawnOf (kernelOf s) seed p .code ≡ 0 = rw (← q .1) done in
+      let small : (found .command .op < 256) × (found .command .a < 256) = rw (q .1) (drawn-small (kernelOf s) seed p (image-sound s (q .0)) made) in
+      let u = unpacked-draw found (code-small s seed p) (small .0) (small .1) in
+      rw (u .1, u .2, u .3, eq-eqb (found .code) 0 done) (refl, refl)
+
+  pub draw-step-refused : drawAnswer s seed span weights % 256 ≢ 0 → (drawStepAnswer s seed span weights ≡ drawAnswer s seed span weights) × (drawStepImage s seed span weights ≡ s)
+  unfolding drawAnswer drawStepAnswer drawStepImage
+  draw-step-refused n =
+      let other : found .code ≢ 0 = λ e. n (code-of ∙ e) in rw (ne-eqb (found .code) 0 other) (add-zero (packedDrawn found), refl)
+
+-- The answer taken apart: its low 32 bits are the draw's answer, the rest is the step's.
+pub unpacked-both : (d : Drawn) (n : ℕ) → d .code < 256 → d .command .op < 256 → d .command .a < 256 → d .command .b < 256
+    → ((packedDrawn d + 4294967296 * n) % 4294967296 ≡ packedDrawn d) × ((packedDrawn d + 4294967296 * n) / 4294967296 ≡ n)
+unpacked-both d n c o a b = (omega arith, omega arith)
 
 -- ## Document 01's draw
 -- `seed 1 span 100 weights 10 10 10 10 10 10 10 10` on the image behind its five set-up lines: op 4 (1024 is 256 * 4), the time 39, the third draw as the seed.

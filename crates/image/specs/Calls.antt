@@ -8,7 +8,7 @@ use Rattle.rules.specs.Machine.{Command, fresh}
 use Rattle.kernel.specs.declared.command.Answer.{Answer}
 use Rattle.kernel.specs.declared.Left.{Left}
 use Rattle.kernel.specs.View.{encode}
-use Rattle.kernel.specs.Public.{stepOf, leftOf}
+use Rattle.kernel.specs.Public.{said, stepOf, leftOf}
 use Rattle.generator.specs.declared.Profile.{Profile}
 use Rattle.generator.specs.declared.Drawn.{Drawn}
 use Rattle.generator.specs.Public.{drawnOf, refusedOf}
@@ -78,3 +78,14 @@ drawSeed s seed span weights = drawOn s seed (toldProfile span weights) .seed
 unfoldable pub drawValue : List ℕ → ℕ → ℕ → List ℕ → ℕ → ℕ
 drawValue s seed span weights value =
     let d = drawOn s seed (toldProfile span weights) in cond (eqb (d .code) 0) (d .command .value) value
+
+-- A draw with its step: what is drawn is stepped, as a call of its own would step it. A refused draw steps nothing. In one number: the draw's
+-- answer + 4294967296 * the step's, which is 0 where there is none.
+unfoldable pub drawStepAnswer : List ℕ → ℕ → ℕ → List ℕ → ℕ
+drawStepAnswer s seed span weights =
+    let d = drawOn s seed (toldProfile span weights) in packedDrawn d + 4294967296 * cond (eqb (d .code) 0) (stepAnswer s (said (d .command))) 0
+
+-- The image that is left: the step's. (The seed and the value that are left are the draw's.)
+unfoldable pub drawStepImage : List ℕ → ℕ → ℕ → List ℕ → List ℕ
+drawStepImage s seed span weights =
+    let d = drawOn s seed (toldProfile span weights) in cond (eqb (d .code) 0) (stepImage s (said (d .command))) s

@@ -8,6 +8,9 @@ use Rattle.kernel.specs.declared.Kernel.{Kernel}
 use Rattle.kernel.specs.declared.Stepped.{Stepped}
 use Rattle.kernel.specs.declared.command.Answer.{Answer}
 use Rattle.kernel.specs.Public.{report, shape, stepOf}
+use Rattle.generator.specs.declared.Profile.{Profile}
+use Rattle.generator.specs.declared.Carried.{Carried}
+use Rattle.generator.specs.Public.{drawnOf, refusedOf, behindDraw, unmoved, answerTo, carriedOf}
 use Rattle.layout.specs.Layout.{kernelOf, formed, laid}
 
 -- The step of what is read. Bytes of which no state can be read leave the tables, and are answered 1, 0, 0.
@@ -17,3 +20,12 @@ stepRead s k c = cond (formed s) (stepOf (kernelOf s) c) (report k shape)
 -- The tables laid out in the bytes, where the answer is no refusal.
 abbrev pub kept : List ℕ → Kernel → Answer → List ℕ
 kept s k a = cond (eqb (a .code) 0) (laid s k) s
+
+-- A draw with its step, of what is read: what is drawn and answered,
+abbrev pub drawnRead : List ℕ → ℕ → Profile → Carried
+drawnRead s seed p =
+    let d = drawnOf (kernelOf s) seed p in cond (formed s) (carriedOf d (answerTo (kernelOf s) d)) (carriedOf (refusedOf 1 seed) (unmoved 1 0))
+
+-- and the tables behind it.
+abbrev pub behindRead : List ℕ → Kernel → ℕ → Profile → Kernel
+behindRead s k seed p = cond (formed s) (behindDraw (kernelOf s) (drawnOf (kernelOf s) seed p)) k

@@ -4,13 +4,15 @@
 // there; an accepted one lays them out in the image again. Bytes of every length, whatever they hold, get an answer: no exported function
 // has a `requires`.
 ghost use mathlib.Core.Path.{_≡_};
-ghost use Prim.Native.Nat.{_<_};
+ghost use Prim.Native.Nat.{_+_, _*_, _<_};
 ghost use Rattle.kernel.specs.Public.{said};
 ghost use Rattle.kernel.specs.Step.{tables};
-ghost use Rattle.generator.specs.Public.{refusedOf};
+ghost use Rattle.generator.specs.Public.{refusedOf, unmoved};
 ghost use Rattle.image.specs.Calls.{told, fitted, fittedTask, packed, stepAnswer, stepImage, freshAnswer, freshImage, packedLeft, leftAnswer};
 ghost use Rattle.image.specs.Calls.{fittedProfile, drawOn, packedDrawn, drawAnswer, drawSeed, drawValue};
-ghost use Rattle.image.specs.Tables.{stepRead, kept};
+ghost use Rattle.image.specs.Calls.{drawStepAnswer, drawStepImage};
+ghost use Rattle.image.specs.Tables.{stepRead, kept, drawnRead, behindRead};
+use generator::Carried;
 use generator::Drawn;
 use generator::Profile;
 use kernel::Answer;
@@ -78,6 +80,17 @@ fn pack_left(l: Left) -> u32
 
 // ---- The step
 
+// The answer where no state can be read.
+fn no_state() -> Answer
+    ensures { λ r. ⌜ r ≡ unmoved 1 0 ⌝ }
+{
+    Answer {
+        code: 1,
+        running: TaskID(0),
+        released: TaskID(0),
+    }
+}
+
 // The step of the machine that the bytes hold, in tables that are lent: they hold the state after it. Bytes of which no state can be read are
 // answered 1, 0, 0.
 fn step_on(
@@ -109,11 +122,7 @@ fn step_on(
         clock,
         started,
     ) {
-        return Answer {
-            code: 1,
-            running: TaskID(0),
-            released: TaskID(0),
-        };
+        return no_state();
     }
     kernel::in_place::step(
         base,
@@ -430,4 +439,167 @@ pub extern "C" fn rvn_draw(
     *seed = d.seed;
     *value = d.command.value;
     r
+}
+
+// ---- A drawn command, carried out
+
+// The draw of the machine that the bytes hold, and its step, in tables that are lent: they hold the state after it. The state is tested once.
+fn draw_step_on(
+    image: &[u8],
+    base: &mut [u8; 32],
+    ready: &mut [u8; 32],
+    delayed: &mut [u8; 32],
+    held: &mut [u8; 32],
+    way: &mut [u8; 32],
+    until: &mut [u64; 32],
+    ceiling: &mut [u8; 8],
+    waiter: &mut [u8; 8],
+    clock: &mut u64,
+    started: &mut bool,
+    seed: u32,
+    p: Profile,
+) -> Carried
+    ensures { λ r. ⌜ (tables (now (base .exit)) (now (ready .exit)) (now (delayed .exit)) (now (held .exit)) (now (way .exit)) (now (until .exit)) (now (ceiling .exit)) (now (waiter .exit)) (now (clock .exit)) (now (started .exit)) ≡ behindRead (now (image .entry)) (tables (now (base .entry)) (now (ready .entry)) (now (delayed .entry)) (now (held .entry)) (now (way .entry)) (now (until .entry)) (now (ceiling .entry)) (now (waiter .entry)) (now (clock .entry)) (now (started .entry))) seed p) × (r ≡ drawnRead (now (image .entry)) seed p) ⌝ }
+{
+    if !layout::read(
+        image,
+        base,
+        ready,
+        delayed,
+        held,
+        way,
+        until,
+        ceiling,
+        waiter,
+        clock,
+        started,
+    ) {
+        let drawn = no_image(seed);
+        let answer = no_state();
+        return Carried { drawn, answer };
+    }
+    generator::in_place::draw_and_step(
+        base,
+        ready,
+        delayed,
+        held,
+        way,
+        until,
+        ceiling,
+        waiter,
+        clock,
+        started,
+        seed,
+        p,
+    )
+}
+
+// The same, and the tables of a draw that is made are laid out in the image.
+fn draw_and_keep(
+    image: &mut [u8],
+    base: &mut [u8; 32],
+    ready: &mut [u8; 32],
+    delayed: &mut [u8; 32],
+    held: &mut [u8; 32],
+    way: &mut [u8; 32],
+    until: &mut [u64; 32],
+    ceiling: &mut [u8; 8],
+    waiter: &mut [u8; 8],
+    clock: &mut u64,
+    started: &mut bool,
+    seed: u32,
+    p: Profile,
+) -> Carried
+    ensures { λ r. ⌜ (r ≡ drawnRead (now (image .entry)) seed p) × (now (image .exit) ≡ kept (now (image .entry)) (behindRead (now (image .entry)) (tables (now (base .entry)) (now (ready .entry)) (now (delayed .entry)) (now (held .entry)) (now (way .entry)) (now (until .entry)) (now (ceiling .entry)) (now (waiter .entry)) (now (clock .entry)) (now (started .entry))) seed p) (drawnRead (now (image .entry)) seed p .answer)) ⌝ }
+{
+    let carried = draw_step_on(
+        image,
+        base,
+        ready,
+        delayed,
+        held,
+        way,
+        until,
+        ceiling,
+        waiter,
+        clock,
+        started,
+        seed,
+        p,
+    );
+    let answer = carried.answer;
+    keep(
+        image,
+        base,
+        ready,
+        delayed,
+        held,
+        way,
+        until,
+        ceiling,
+        waiter,
+        *clock,
+        *started,
+        answer,
+    );
+    carried
+}
+
+fn wider(x: u32) -> u64
+    ensures { λ r. ⌜ (r ≡ x) × (r < 4294967296) ⌝ }
+{
+    x as u64
+}
+
+fn pack_both(d: Drawn, a: Answer) -> u64
+    ensures { λ r. ⌜ r ≡ packedDrawn d + 4294967296 * packed a ⌝ }
+{
+    wider(pack_drawn(d)) + 4294967296 * wider(pack(a))
+}
+
+// Draws a command for the machine of an image and carries it out: rvn_draw, then rvn_step of what is drawn, the state tested once. The answer is
+// that of rvn_draw + 4294967296 * that of rvn_step. A refused draw answers its code alone, and leaves image, seed and value.
+#[no_mangle]
+pub extern "C" fn rvn_draw_step(
+    image: &mut [u8],
+    seed: &mut u32,
+    span: u64,
+    weights: &[u32],
+    value: &mut u64,
+) -> u64
+    ensures { λ r. ⌜ (r ≡ drawStepAnswer (now (image .entry)) (now (seed .entry)) span (now (weights .entry))) × (now (image .exit) ≡ drawStepImage (now (image .entry)) (now (seed .entry)) span (now (weights .entry))) × (now (seed .exit) ≡ drawSeed (now (image .entry)) (now (seed .entry)) span (now (weights .entry))) × (now (value .exit) ≡ drawValue (now (image .entry)) (now (seed .entry)) span (now (weights .entry)) (now (value .entry))) ⌝ }
+{
+    let mut base = [0u8; 32];
+    let mut ready = [0u8; 32];
+    let mut delayed = [0u8; 32];
+    let mut held = [0u8; 32];
+    let mut way = [0u8; 32];
+    let mut until = [0u64; 32];
+    let mut ceiling = [0u8; 8];
+    let mut waiter = [0u8; 8];
+    let mut clock = 0;
+    let mut started = false;
+    let carried = draw_and_keep(
+        image,
+        &mut base,
+        &mut ready,
+        &mut delayed,
+        &mut held,
+        &mut way,
+        &mut until,
+        &mut ceiling,
+        &mut waiter,
+        &mut clock,
+        &mut started,
+        *seed,
+        profile(span, weights),
+    );
+    let drawn = carried.drawn;
+    if drawn.code != 0 {
+        return wider(pack_drawn(drawn));
+    }
+    *seed = drawn.seed;
+    *value = drawn.command.value;
+    let answer = carried.answer;
+    pack_both(drawn, answer)
 }

@@ -35,9 +35,9 @@ fn is_clean(s: &[u8]) -> bool
     (s[8] <= 1) & is_zero(s, 9, 7) & is_zero(s, 192, 32) & is_zero(s, 224, 32)
 }
 
-// ---- Reading: each part into its table
+// ---- Reading: each part by itself, into an array of its own, which LLVM knows to lie apart: so it makes a memory copy of the loop.
 
-// n bytes from a place on into a table of that length. LLVM makes memory copies of it.
+// n bytes from a place on into a table of that length.
 fn copy(s: &[u8], at: usize, n: usize, table: &mut [u8])
     requires { ⌜ (at + n ≤ length (now s)) × (length (now table) ≡ n) ⌝ }
     ensures { λ _. ⌜ now (table .exit) ≡ part n at (now (s .entry)) ⌝ }
@@ -49,26 +49,43 @@ fn copy(s: &[u8], at: usize, n: usize, table: &mut [u8])
     }
 }
 
+fn get8(s: &[u8], at: usize) -> [u8; 8]
+    requires { ⌜ at + 8 ≤ length (now s) ⌝ }
+    ensures { λ r. ⌜ r ≡ part 8 at (now (s .entry)) ⌝ }
+{
+    let mut r = [0u8; 8];
+    copy(s, at, 8, &mut r);
+    r
+}
+
+fn get32(s: &[u8], at: usize) -> [u8; 32]
+    requires { ⌜ at + 32 ≤ length (now s) ⌝ }
+    ensures { λ r. ⌜ r ≡ part 32 at (now (s .entry)) ⌝ }
+{
+    let mut r = [0u8; 32];
+    copy(s, at, 32, &mut r);
+    r
+}
+
 fn number_at(s: &[u8], at: usize) -> u64
     requires { ⌜ at + 8 ≤ length (now s) ⌝ }
     ensures { λ r. ⌜ r ≡ ofLe (now (s .entry)) at ⌝ }
 {
-    let mut bytes = [0u8; 8];
-    copy(s, at, 8, &mut bytes);
-    number_of(bytes)
+    number_of(get8(s, at))
 }
 
 // The times, from byte 256 to the end.
-fn copy_times(s: &[u8], until: &mut [u64; 32])
+fn get_times(s: &[u8]) -> [u64; 32]
     requires { ⌜ length (now s) ≡ 512 ⌝ }
-    ensures { λ _. ⌜ now (until .exit) ≡ numbersOf 32 (drop 256 (now (s .entry))) ⌝ }
+    ensures { λ r. ⌜ r ≡ numbersOf 32 (drop 256 (now (s .entry))) ⌝ }
 {
-    let times: &mut [u64] = until;
+    let mut r = [0u64; 32];
     let mut i: usize = 0;
     while i < 32 {
-        times[i] = number_at(s, 256 + 8 * i);
+        r[i] = number_at(s, 256 + 8 * i);
         i += 1;
     }
+    r
 }
 
 // The state that the bytes hold, into tables that are lent. Bytes of which none can be read leave the tables as they are.
@@ -95,18 +112,18 @@ pub fn read(
     }
     *clock = number_at(s, 0);
     *started = s[8] == 1;
-    copy(s, 16, 8, ceiling);
-    copy(s, 24, 8, waiter);
-    copy(s, 32, 32, base);
-    copy(s, 64, 32, ready);
-    copy(s, 96, 32, delayed);
-    copy(s, 128, 32, held);
-    copy(s, 160, 32, way);
-    copy_times(s, until);
+    *ceiling = get8(s, 16);
+    *waiter = get8(s, 24);
+    *base = get32(s, 32);
+    *ready = get32(s, 64);
+    *delayed = get32(s, 96);
+    *held = get32(s, 128);
+    *way = get32(s, 160);
+    *until = get_times(s);
     true
 }
 
-// ---- Writing: what is written so far grows at its end
+// ---- Writing: what is written so far grows at its end. Parts are handed over by value, for the same reason.
 
 fn put(s: &mut [u8], at: usize, n: usize, v: &[u8])
     requires { ⌜ (at + n ≤ 512) × (length (now s) ≡ 512) × (length (now v) ≡ n) ⌝ }
@@ -117,6 +134,20 @@ fn put(s: &mut [u8], at: usize, n: usize, v: &[u8])
         s[at + i] = v[i];
         i += 1;
     }
+}
+
+fn put8(s: &mut [u8], at: usize, v: [u8; 8])
+    requires { ⌜ (at + 8 ≤ 512) × (length (now s) ≡ 512) ⌝ }
+    ensures { λ _. ⌜ (length (now (s .exit)) ≡ 512) × (take (at + 8) (now (s .exit)) ≡ take at (now (s .entry)) ++ v) ⌝ }
+{
+    put(s, at, 8, &v);
+}
+
+fn put32(s: &mut [u8], at: usize, v: [u8; 32])
+    requires { ⌜ (at + 32 ≤ 512) × (length (now s) ≡ 512) ⌝ }
+    ensures { λ _. ⌜ (length (now (s .exit)) ≡ 512) × (take (at + 32) (now (s .exit)) ≡ take at (now (s .entry)) ++ v) ⌝ }
+{
+    put(s, at, 32, &v);
 }
 
 // A number by itself: for `put` of its bytes LLVM would find no copy of 8 bytes.
@@ -157,9 +188,9 @@ fn put_head(s: &mut [u8], ceiling: &[u8; 8], waiter: &[u8; 8], clock: u64, start
     ensures { λ _. ⌜ (length (now (s .exit)) ≡ 512) × (take 32 (now (s .exit)) ≡ le8 clock ++ flags started ++ now (ceiling .entry) ++ now (waiter .entry)) ⌝ }
 {
     put_number(s, 0, clock);
-    put(s, 8, 8, &[flag(started), 0, 0, 0, 0, 0, 0, 0]);
-    put(s, 16, 8, ceiling);
-    put(s, 24, 8, waiter);
+    put8(s, 8, [flag(started), 0, 0, 0, 0, 0, 0, 0]);
+    put8(s, 16, *ceiling);
+    put8(s, 24, *waiter);
 }
 
 // The tables of bytes, and those that are spare: up to byte 255.
@@ -174,13 +205,13 @@ fn put_tables(
     requires { ⌜ length (now s) ≡ 512 ⌝ }
     ensures { λ _. ⌜ (length (now (s .exit)) ≡ 512) × (take 256 (now (s .exit)) ≡ take 32 (now (s .entry)) ++ now (base .entry) ++ now (ready .entry) ++ now (delayed .entry) ++ now (held .entry) ++ now (way .entry) ++ spare ++ spare) ⌝ }
 {
-    put(s, 32, 32, base);
-    put(s, 64, 32, ready);
-    put(s, 96, 32, delayed);
-    put(s, 128, 32, held);
-    put(s, 160, 32, way);
-    put(s, 192, 32, &[0; 32]);
-    put(s, 224, 32, &[0; 32]);
+    put32(s, 32, *base);
+    put32(s, 64, *ready);
+    put32(s, 96, *delayed);
+    put32(s, 128, *held);
+    put32(s, 160, *way);
+    put32(s, 192, [0; 32]);
+    put32(s, 224, [0; 32]);
 }
 
 // The image of the state that the tables are, whatever the 512 bytes held. Bytes of another length are left as they are.
