@@ -104,7 +104,6 @@ static bool said(const char *p, const char *end, command *c) {
 
 /* What a line says and how it is answered: a line that says no command is 14, and changes nothing. */
 static inline answer carried_out(kernel *k, const char *p, const char *end, command *c) {
-    *c = (command){ 0, 0, 0, 0 };
     if (said(p, end, c)) return step(k, *c);
     *c = (command){ 0, 0, 0, 0 };
     return 14 + 256u * (k->started ? k->ready[0] : 0);

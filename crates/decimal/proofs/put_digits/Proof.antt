@@ -1,6 +1,6 @@
 -- `decimal::put_digits` meets its contract. The invariant: the buffer, with the digits that are left stored, is the buffer that is wanted; in the end three are
 -- left. Assumes nothing.
-use Prim.Native.Nat.{ℕ, _+_, _-_, _*_, _^_, _≤_, _<_}
+use Prim.Native.Nat.{ℕ, _+_, _-_, _^_, _≤_, _<_}
 use native.Mathlib.Omega.{arith}
 use mathlib.Core.Path.{_≡_, ap, _∙_}
 use borrow.Author.Needs.{needs}
@@ -62,7 +62,8 @@ loop-again c =
       omega arith,
       l,
       simp length-set (lp .inv .4),
-      digit-turn (lp .out) (lp .place) (lp .left) (lp .rest) (d .result .digit) (d .result .rest) (omega arith) (rw p at (d .ensures .0)) l (d .ensures .2) ∙ lp .inv .5,
+      digit-turn (lp .out) (lp .place) (lp .left) (lp .rest) (d .result .digit) (d .result .rest) (omega arith) (rw p at (d .ensures .0)) l (d .ensures .2)
+          ∙ lp .inv .5,
     )
 
 put-three-requires : tie.Need-put-three-requires Inv-loop μ-loop
