@@ -161,9 +161,10 @@ pub fn write_whole(w: Went, out: &[u8]) -> Went
     if usize::MAX - w.sent < at {
         return not_written(w);
     }
+    let sent = w.sent + at;
     Went {
         kind: w.kind,
         count: w.count,
-        sent: w.sent + at,
+        sent,
     }
 }

@@ -2,7 +2,7 @@
 // form of a case; tools/tape_cases.py makes the files and, from document 01 alone, what this program must write.
 use tape::Read;
 use tape::Record;
-ghost use Prim.Native.Nat.{_≤_, _<_};
+ghost use Prim.Native.Nat.{_-_, _≤_, _<_};
 ghost use lib.ListN.{length};
 
 // Bytes before a case's tape: kind, length, six fields, value, place.
@@ -89,15 +89,48 @@ fn answer(tape: &[u8], at: usize) -> usize {
     next
 }
 
-// A whole tape, from place 0 until the place is kept.
+// What a reader hands back at a place, from the part and its code alone.
+fn show_part(part: &[u8], code: u8) {
+    if code != 0 {
+        show(Read::Refused(code));
+        return;
+    }
+    if part.len() == 0 {
+        show(Read::End);
+        return;
+    }
+    text(b"record");
+    show_record(tape::record_of(part));
+}
+
+// Writes what a reader has answered: its place, its part and the code, its next place. Answers how many turns are left: none where the place was kept.
+fn told(at: usize, part: &[u8], code: u8, next: usize, left: u32) -> u32
+    ensures { λ r. ⌜ r ≤ left - 1 ⌝ }
+{
+    decimal(at as u64);
+    text(b": ");
+    show_part(part, code);
+    text(b", code");
+    field(code);
+    text(b", part ");
+    hex(part);
+    text(b", next ");
+    decimal(next as u64);
+    text(b"\n");
+    if next == at {
+        return 0;
+    }
+    if left == 0 { 0 } else { left - 1 }
+}
+
+// A whole tape by one reader, from its opening until its place is kept.
 fn tape_case(tape: &[u8]) {
-    let mut turns: u32 = 100;
-    let mut at: usize = 0;
-    let mut next = answer(tape, at);
-    while turns > 0 && next != at {
-        at = next;
-        next = answer(tape, at);
-        turns -= 1;
+    let mut r = tape::open(tape);
+    let mut left: u32 = 101;
+    while 0 < left {
+        let at = r.at;
+        let p = tape::next(&mut r);
+        left = told(at, p.bytes, p.code, r.at, left);
     }
 }
 

@@ -62,8 +62,8 @@ not-written-requires-3 c κs = search needs
 returns-3 : tie.Need-returns-3 Inv-loop μ-loop
 returns-3 c = (c .not-written3 .ensures .0, inr (c .not-written3 .ensures .1))
 
-add-t14 : tie.Need-add-t14 Inv-loop μ-loop
-add-t14 c = search needs
+add-sent : tie.Need-add-sent Inv-loop μ-loop
+add-sent c = search needs
 
 returns-4 : tie.Need-returns-4 Inv-loop μ-loop
 returns-4 c = (refl, inl (refl, omega arith))
@@ -90,5 +90,5 @@ write-whole-spec =
     sub-if4
     not-written-requires-3
     returns-3
-    add-t14
+    add-sent
     returns-4)
