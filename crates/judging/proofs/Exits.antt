@@ -6,7 +6,8 @@ use mathlib.Core.Bool.{Bool, true, false, not, _||_}
 use mathlib.Core.List.{List}
 use borrow.Author.Tests.{eq-eqb, ne-eqb}
 use lib.Dec.{eqb, ltb}
-use Rattle.kernel.specs.declared.Stepped.{Stepped}
+use Rattle.kernel.specs.declared.Kernel.{Kernel}
+use Rattle.kernel.specs.declared.command.Answer.{Answer}
 use Rattle.kernel.specs.Step.{steppedOf}
 use Rattle.record.specs.declared.Record.{Record}
 use Rattle.record.specs.Form.{recordOf}
@@ -18,17 +19,17 @@ use Rattle.judging.specs.declared.Stage.{Stage}
 use Rattle.judging.specs.declared.Stage.the-variants.{Going, Over}
 use Rattle.judging.specs.declared.Run.{Run}
 use Rattle.judging.specs.Verdict.{command-of, answer-on, shown, same, difference}
-use Rattle.judging.specs.Pieces.{beyond, refused-at, refused, over, headed, compared, answered, taken, onward, at-end}
+use Rattle.judging.specs.Pieces.{beyond, refused-at, refused, headed, compared, answered, taken, onward, at-end}
 
 -- ---- a command record
-module _ (x : Run) (r : Record) (s : Stepped) (e : s ≡ steppedOf (x .kernel) (command-of r)) (t : Bool) (f : t ≡ same (shown (answer-on r)) (s .answer)) where
-  pub differing : t ≡ false → over x (difference (x .place / 16) r (s .answer)) ≡ answered x r
+module _ (x : Run) (r : Record) (k : Kernel) (e : k ≡ (steppedOf (x .kernel) (command-of r)) .next) (a : Answer) (d : a ≡ (steppedOf (x .kernel) (command-of r)) .answer) (t : Bool) (f : t ≡ same (shown (answer-on r)) a) where
+  pub differing : t ≡ false → record { kernel = k; place = x .place; seed = x .seed; stage = Over (difference (x .place / 16) r a) } ≡ answered x r
   unfolding answered compared
-  differing n = rw (← e, ← f, n)
+  differing n = rw (← d, ← e, ← f, n)
 
-  pub agreeing : (at : ℕ) → at ≡ beyond (x .place) → t ≡ true → record { kernel = s .next; place = at; seed = x .seed; stage = Going } ≡ answered x r
+  pub agreeing : (at : ℕ) → at ≡ beyond (x .place) → t ≡ true → record { kernel = k; place = at; seed = x .seed; stage = Going } ≡ answered x r
   unfolding answered compared
-  agreeing at q y = rw (← e, ← f, y, q)
+  agreeing at q y = rw (← d, ← e, ← f, y, q)
 
 -- ---- 16 bytes
 pub onward-over : (x : Run) (p : List ℕ) (v : Verdict) → x .stage ≡ Over v → x ≡ onward x p

@@ -13,6 +13,7 @@ use lib.ListN.{length, take, drop, getD, set, List·getD-append, List·getD-eq-d
 use lib.Seq.{length-take-le, getD-take, getD-append-add, take-suc-set, take-suc, take-all, drop-drop}
 use Rattle.tape.proofs.Reading.{sixteen}
 use Rattle.kernel.specs.View.{pad}
+use Rattle.kernel.proofs.Padded.{pad-size}
 use Rattle.judging.specs.declared.Run.{Run}
 use Rattle.judging.specs.declared.Judge.{Judge}
 use Rattle.judging.specs.Pieces.{Heard, byte, bytes, heard, fed, through, onward}
@@ -120,6 +121,11 @@ few-begun h (b ∷ p) o = few-begun (byte h b) p (one-more h b o)
 
 -- ---- the code's ways
 
+-- a record alone
+through-one : (x : Run) (l : List ℕ) → length l ≡ 16 → (through x l) .run ≡ onward x l
+unfolding through
+through-one x l e = rw (bytes-whole x [] l (omega arith) (omega arith))
+
 -- a piece too short for a record
 pub fed-short : (j : Judge) (p l : List ℕ) → l ≡ heard j .begun → length l + length p ≤ 15 → record { run = j .run; held = pad 16 (l ++ p); count = length l + length p } ≡ fed j p
 unfolding fed
@@ -147,8 +153,11 @@ module _ (j : Judge) (p : List ℕ) (n : ℕ) (en : n ≡ min 15 (j .count)) (z 
   pub feed-short : length p < 16 - n → record { run = j .run; held = first; count = n + length p } ≡ fed j p
   feed-short o = rw ef (rw begun-long at (fed-short j p (take n (j .held)) begun-is (rw begun-long (omega arith))))
 
-  pub feed-whole : (y : Run) → y ≡ onward (j .run) first → 16 - n ≤ length p → through y (drop (16 - n) p) ≡ fed j p
-  feed-whole y ey o = let f : n ≤ 15 = few in rw (ey, ef) (rw begun-long at (fed-whole j p (take n (j .held)) begun-is (rw begun-long f) (rw begun-long (omega arith))))
+  pub feed-whole : (y : Judge) → y ≡ through (j .run) first → 16 - n ≤ length p → through (y .run) (drop (16 - n) p) ≡ fed j p
+  feed-whole y ey o =
+      let f : n ≤ 15 = few in
+      let whole : length first ≡ 16 = rw ef (pad-size 16 (take n (j .held) ++ p)) in
+      rw (ey, through-one (j .run) first whole, ef) (rw begun-long at (fed-whole j p (take n (j .held)) begun-is (rw begun-long f) (rw begun-long (omega arith))))
 
 -- whole records, and what is left
 pub through-record : (x : Run) (l : List ℕ) → 16 ≤ length l → through (onward x (take 16 l)) (drop 16 l) ≡ through x l

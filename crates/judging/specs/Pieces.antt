@@ -6,6 +6,7 @@ use mathlib.Core.List.{List, [], _∷_, _++_}
 use lib.Dec.{eqb, ltb}
 use lib.ListN.{length, take, replicate}
 use Rattle.rules.specs.Machine.{fresh}
+use Rattle.kernel.specs.declared.Kernel.{Kernel}
 use Rattle.kernel.specs.declared.Stepped.{Stepped}
 use Rattle.kernel.specs.View.{encode, pad}
 use Rattle.kernel.specs.Step.{steppedOf}
@@ -19,9 +20,14 @@ use Rattle.judging.specs.declared.Verdict.the-variants.{Agrees, Refused 
 use Rattle.judging.specs.declared.Judgement.{Judgement}
 use Rattle.judging.specs.declared.Stage.{Stage}
 use Rattle.judging.specs.declared.Stage.the-variants.{Going, Over}
+use Rattle.judging.specs.declared.in_place.Head.{Head}
 use Rattle.judging.specs.declared.Run.{Run}
 use Rattle.judging.specs.declared.Judge.{Judge}
 use Rattle.judging.specs.Verdict.{command-of, answer-on, shown, same, difference, seed-shown}
+
+-- The run of a machine, and of where a judge stands beside it.
+abbrev pub run-of : Kernel → Head → Run
+run-of k h = record { kernel = k; place = h .place; seed = h .seed; stage = h .stage }
 
 -- The place behind a record. (The last places of 64 bits are followed by themselves: no tape is so long.)
 abbrev pub beyond : ℕ → ℕ
@@ -31,10 +37,6 @@ beyond place = cond (ltb place 18446744073709551600) (place + 16) place
 abbrev pub refused-at : ℕ → ℕ → Verdict
 refused-at code place = Malformed (record { code = code; number = place / 16; place = place })
 
--- The verdict is there.
-abbrev pub over : Run → Verdict → Run
-over x v = record { kernel = x .kernel; place = x .place; seed = x .seed; stage = Over v }
-
 -- A record of that value is refused.
 abbrev pub refused : Run → ℕ → ℕ → Run
 refused x code value = record { kernel = x .kernel; place = x .place; seed = seed-shown code value (x .seed); stage = Over (refused-at code (x .place)) }
@@ -43,11 +45,12 @@ refused x code value = record { kernel = x .kernel; place = x .place; seed = see
 abbrev pub headed : Run → ℕ → Run
 headed x seed = record { kernel = x .kernel; place = beyond (x .place); seed = seed; stage = Going }
 
--- A command record beside the step of its command: the same answer, and the step's next state; or the first that differs.
+-- A command record beside the step of its command: the same answer, and on to the next place; or the first that differs. The machine is the step's next
+-- one in both cases: behind a difference nothing is looked at, and so neither is the machine.
 unfoldable pub compared : Run → Record → Stepped → Run
 compared x r s =
     cond (same (shown (answer-on r)) (s .answer)) (record { kernel = s .next; place = beyond (x .place); seed = x .seed; stage = Going })
-    (over x (difference (x .place / 16) r (s .answer)))
+    (record { kernel = s .next; place = x .place; seed = x .seed; stage = Over (difference (x .place / 16) r (s .answer)) })
 
 -- A command record, by the step on the tables.
 unfoldable pub answered : Run → Record → Run

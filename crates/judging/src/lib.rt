@@ -9,15 +9,13 @@ ghost use lib.ListN.{length, take, drop, getD};
 ghost use Rattle.kernel.specs.View.{pad};
 ghost use Rattle.judging.specs.Verdict as verdict;
 ghost use Rattle.judging.specs.Pieces as pieces;
+
+mod in_place;
+
+use in_place::Head;
 pub use kernel::Answer;
 pub use kernel::Command;
 pub use kernel::Kernel;
-use kernel::TaskID;
-use record::Record;
-use record::choose;
-use record::fault;
-use record::is_marked;
-use record::record_of;
 
 // The first record that differs: its number (the header is 0), its command, the answer on the tape, and the rules'.
 pub struct Difference {
@@ -69,24 +67,7 @@ pub struct Judge {
     pub count: usize,
 }
 
-fn same(x: Answer, y: Answer) -> bool
-    ensures { λ r. ⌜ r ≡ verdict.same x y ⌝ }
-{
-    (x.code == y.code) & (x.running.0 == y.running.0) & (x.released.0 == y.released.0)
-}
-
-// The place behind a record. The last places of 64 bits are followed by themselves: no tape is so long.
-fn beyond(place: usize) -> usize
-    ensures { λ r. ⌜ r ≡ pieces.beyond place ⌝ }
-{
-    if place < 18446744073709551600 {
-        place + 16
-    } else {
-        place
-    }
-}
-
-fn refused_at(code: u8, place: usize) -> Verdict
+pub(crate) fn refused_at(code: u8, place: usize) -> Verdict
     ensures { λ r. ⌜ r ≡ pieces.refused-at code place ⌝ }
 {
     Verdict::Refused(Refusal {
@@ -96,123 +77,72 @@ fn refused_at(code: u8, place: usize) -> Verdict
     })
 }
 
-fn seed_shown(code: u8, value: u64, seed: u64) -> u64
-    ensures { λ r. ⌜ r ≡ verdict.seed-shown code value seed ⌝ }
-{
-    if code == 17 { value } else { seed }
-}
-
 impl Run {
-    fn over(self, v: Verdict) -> Run
-        ensures { λ r. ⌜ r ≡ pieces.over self v ⌝ }
-    {
-        let kernel = self.kernel;
-        Run {
-            kernel,
-            place: self.place,
-            seed: self.seed,
-            stage: Stage::Over(v),
-        }
-    }
-
-    fn refused(self, code: u8, value: u64) -> Run
-        ensures { λ r. ⌜ r ≡ pieces.refused self code value ⌝ }
-    {
-        let kernel = self.kernel;
-        Run {
-            kernel,
-            place: self.place,
-            seed: seed_shown(code, value, self.seed),
-            stage: Stage::Over(refused_at(code, self.place)),
-        }
-    }
-
-    // The header: its seed is kept to be shown.
-    fn headed(self, seed: u64) -> Run
-        ensures { λ r. ⌜ r ≡ pieces.headed self seed ⌝ }
-    {
-        let kernel = self.kernel;
-        Run {
-            kernel,
-            place: beyond(self.place),
-            seed,
-            stage: Stage::Going,
-        }
-    }
-
-    // A command record. From Judge::fresh on the tables are always sound (proofs/Whole), so the step does not test them. Of tables that
-    // somebody made up the answer is steppedOf's, and no rule speaks of it.
-    fn answered(self, t: Record) -> Run
-        ensures { λ r. ⌜ r ≡ pieces.answered self t ⌝ }
-    {
-        let command = Command {
-            op: t.op,
-            a: t.a,
-            b: t.b,
-            value: t.value,
-        };
-        let tape = Answer {
-            code: t.code,
-            running: TaskID(t.running),
-            released: TaskID(t.released),
-        };
-        let kernel = self.kernel;
-        let stepped = kernel.step_trusting(command);
-        let rules = stepped.answer;
-        if !same(tape, rules) {
-            let number = self.place >> 4;
-            return self.over(Verdict::Differs(Difference {
-                number,
-                command,
-                tape,
-                rules,
-            }));
-        }
-        let next = stepped.next;
-        Run {
-            kernel: next,
-            place: beyond(self.place),
-            seed: self.seed,
-            stage: Stage::Going,
-        }
-    }
-
-    // The next 16 bytes. 15 and 17 come before any judgement of the record; behind a verdict nothing is looked at.
-    fn onward(self, p: &[u8]) -> Run
-        ensures { λ r. ⌜ r ≡ pieces.onward self (now (p .entry)) ⌝ }
-    {
-        let stage = self.stage;
-        let Stage::Going = stage else {
-            return self;
-        };
-        let place = self.place;
-        let t = record_of(p);
-        let code = choose(is_marked(p), fault(place, t), 15);
-        if code != 0 {
-            return self.refused(code, t.value);
-        }
-        if place == 0 {
-            return self.headed(t.value);
-        }
-        self.answered(t)
-    }
-
-    // The records that lie whole in a piece from a place on. What is left of the piece is held.
+    // The records that lie whole in a piece from a place on. What is left of the piece is held. The machine is taken into locals, and each
+    // record is judged there: no turn copies it. (One call in the loop and no other: so it is compiled into the loop.)
     fn through(self, piece: &[u8], from: usize) -> Judge
         requires { ⌜ from ≤ length (now piece) ⌝ }
         ensures { λ r. ⌜ r ≡ pieces.through self (drop from (now (piece .entry))) ⌝ }
     {
-        let mut run = self;
+        let k = self.kernel;
+        let mut base = k.base;
+        let mut ready = k.ready;
+        let mut delayed = k.delayed;
+        let mut held = k.held;
+        let mut way = k.way;
+        let mut until = k.until;
+        let mut ceiling = k.ceiling;
+        let mut waiter = k.waiter;
+        let mut clock = k.clock;
+        let mut started = k.started;
+        let stage = self.stage;
+        let mut head = Head {
+            place: self.place,
+            seed: self.seed,
+            stage,
+        };
         let mut at = from;
         while 16 <= piece.len() - at {
             let end = at + 16;
-            run = run.onward(&piece[at..end]);
+            head = in_place::onward(
+                &mut base,
+                &mut ready,
+                &mut delayed,
+                &mut held,
+                &mut way,
+                &mut until,
+                &mut ceiling,
+                &mut waiter,
+                &mut clock,
+                &mut started,
+                head,
+                &piece[at..end],
+            );
             at = end;
         }
-        let held = together([0; 16], 0, &piece[at..]);
+        let kernel = Kernel {
+            base,
+            ready,
+            delayed,
+            held,
+            way,
+            until,
+            ceiling,
+            waiter,
+            clock,
+            started,
+        };
+        let stage = head.stage;
+        let run = Run {
+            kernel,
+            place: head.place,
+            seed: head.seed,
+            stage,
+        };
+        let left = together([0; 16], 0, &piece[at..]);
         Judge {
             run,
-            held,
+            held: left,
             count: piece.len() - at,
         }
     }
@@ -307,7 +237,9 @@ impl Judge {
                 count: n + piece.len(),
             };
         }
-        run.onward(&first).through(piece, wanted)
+        let whole = run.through(&first, 0);
+        let next = whole.run;
+        next.through(piece, wanted)
     }
 
     // Whether a verdict is still to come. Behind it no piece changes anything (proofs/Whole, verdict-stays), so nothing more need be read.

@@ -1,4 +1,5 @@
--- `Judge::feed` meets its contract: a piece too short for a record is held; else the record that was begun is whole, and `through` goes on (Hearing). Assumes nothing.
+-- `Judge::feed` meets its contract: a piece too short for a record is held; else the record that was begun is whole, and goes through alone, and then the rest of
+-- the piece (Hearing). Assumes nothing.
 use mathlib.Core.Path.{_≡_, _∙_}
 use lib.ListN.{length}
 use Rattle.judging.proofs.Hearing.{feed-short, feed-whole}
@@ -18,31 +19,33 @@ together-requires c κs = search needs
 sub-wanted : tie.Need-sub-wanted
 sub-wanted c = search needs
 
-add-t13 : tie.Need-add-t13
-add-t13 c = search needs
+add-t15 : tie.Need-add-t15
+add-t15 c = search needs
 
 returns : tie.Need-returns
 returns c =
-    let a = c .before .before .before .before .before .before .args in
+    let b = c .before .before .before .before .before .before in
     let n = c .before .before .before .before .held-count in
     let t = c .before .before .together in
-    feed-short (a .self) (a .piece .now) (n .result) (n .ensures) (size (c .before .before .before .before .before .before)) (t .result) (t .ensures) (c .if1 .taken)
+    feed-short (b .args .self) (b .args .piece .now) (n .result) (n .ensures) (size b) (t .result) (t .ensures) (c .if1 .taken)
 
-slice-aggregate-onward : tie.Need-slice-aggregate-onward
-slice-aggregate-onward c = search needs
-
-onward-requires : tie.Need-onward-requires
-onward-requires c κs = search needs
+slice-aggregate-through : tie.Need-slice-aggregate-through
+slice-aggregate-through c = search needs
 
 through-requires : tie.Need-through-requires
 through-requires c κs = search needs
 
+through-requires-2 : tie.Need-through-requires-2
+through-requires-2 c κs = search needs
+
 returns-2 : tie.Need-returns-2
 returns-2 c =
-    let a = c .before .before .before .before .before .before .before .before .before .args in
-    let n = c .before .before .before .before .before .before .before .held-count in
-    let t = c .before .before .before .before .before .together in
-    c .through .ensures ∙ feed-whole (a .self) (a .piece .now) (n .result) (n .ensures) (size (c .before .before .before .before .before .before .before .before .before)) (t .result) (t .ensures) (c .before .onward .result) (c .before .onward .ensures) (c .before .before .before .if1 .left)
+    let b = c .before .before .before .before .before .before .before .before .before .before in
+    let n = c .before .before .before .before .before .before .before .before .held-count in
+    let t = c .before .before .before .before .before .before .together in
+    let w = c .before .before .through in
+    c .through2 .ensures
+    ∙ feed-whole (b .args .self) (b .args .piece .now) (n .result) (n .ensures) (size b) (t .result) (t .ensures) (w .result) (w .ensures) (c .before .before .before .before .if1 .left)
 
 pub feed-spec : {M : Type 1} → statement M
 feed-spec =
@@ -51,9 +54,9 @@ feed-spec =
     held-count-requires
     together-requires
     sub-wanted
-    add-t13
+    add-t15
     returns
-    slice-aggregate-onward
-    onward-requires
+    slice-aggregate-through
     through-requires
+    through-requires-2
     returns-2)

@@ -1,0 +1,168 @@
+// One record of 16 bytes, judged on lent tables: an accepted command is carried out where they lie.
+// (What the step does to them: kernel::in_place.)
+ghost use mathlib.Core.Path.{_≡_};
+ghost use Rattle.kernel.specs.Step.{tables};
+ghost use Rattle.judging.specs.Verdict as verdict;
+ghost use Rattle.judging.specs.Pieces as pieces;
+ghost use Rattle.judging.specs.Pieces.{run-of};
+use crate::Difference;
+use crate::Stage;
+use crate::Verdict;
+use crate::refused_at;
+use kernel::Answer;
+use kernel::Command;
+use kernel::TaskID;
+use record::Record;
+use record::choose;
+use record::fault;
+use record::is_marked;
+use record::record_of;
+
+// Where a judge stands, beside the tables: all of a run but its machine.
+pub(crate) struct Head {
+    pub(crate) place: usize,
+    pub(crate) seed: u64,
+    pub(crate) stage: Stage,
+}
+
+fn same(x: Answer, y: Answer) -> bool
+    ensures { λ r. ⌜ r ≡ verdict.same x y ⌝ }
+{
+    (x.code == y.code) & (x.running.0 == y.running.0) & (x.released.0 == y.released.0)
+}
+
+// The place behind a record. The last places of 64 bits are followed by themselves: no tape is so long.
+fn beyond(place: usize) -> usize
+    ensures { λ r. ⌜ r ≡ pieces.beyond place ⌝ }
+{
+    if place < 18446744073709551600 {
+        place + 16
+    } else {
+        place
+    }
+}
+
+fn seed_shown(code: u8, value: u64, seed: u64) -> u64
+    ensures { λ r. ⌜ r ≡ verdict.seed-shown code value seed ⌝ }
+{
+    if code == 17 { value } else { seed }
+}
+
+// A command record. From Judge::fresh on the tables are always sound (proofs/Whole), so the step does not test them. Of tables that
+// somebody made up the answer is steppedOf's, and no rule speaks of it. The step comes first: behind a record that differs the tables are
+// the step's, too, and nobody looks at them.
+fn answered(
+    base: &mut [u8; 32],
+    ready: &mut [u8; 32],
+    delayed: &mut [u8; 32],
+    held: &mut [u8; 32],
+    way: &mut [u8; 32],
+    until: &mut [u64; 32],
+    ceiling: &mut [u8; 8],
+    waiter: &mut [u8; 8],
+    clock: &mut u64,
+    started: &mut bool,
+    h: Head,
+    t: Record,
+) -> Head
+    ensures { λ r. ⌜ run-of (tables (now (base .exit)) (now (ready .exit)) (now (delayed .exit)) (now (held .exit)) (now (way .exit)) (now (until .exit)) (now (ceiling .exit)) (now (waiter .exit)) (now (clock .exit)) (now (started .exit))) r ≡ pieces.answered (run-of (tables (now (base .entry)) (now (ready .entry)) (now (delayed .entry)) (now (held .entry)) (now (way .entry)) (now (until .entry)) (now (ceiling .entry)) (now (waiter .entry)) (now (clock .entry)) (now (started .entry))) h) t ⌝ }
+{
+    let command = Command {
+        op: t.op,
+        a: t.a,
+        b: t.b,
+        value: t.value,
+    };
+    let tape = Answer {
+        code: t.code,
+        running: TaskID(t.running),
+        released: TaskID(t.released),
+    };
+    let rules = kernel::in_place::step_trusting(
+        base,
+        ready,
+        delayed,
+        held,
+        way,
+        until,
+        ceiling,
+        waiter,
+        clock,
+        started,
+        command,
+    );
+    let place = h.place;
+    if !same(tape, rules) {
+        let number = place >> 4;
+        return Head {
+            place,
+            seed: h.seed,
+            stage: Stage::Over(Verdict::Differs(Difference {
+                number,
+                command,
+                tape,
+                rules,
+            })),
+        };
+    }
+    Head {
+        place: beyond(place),
+        seed: h.seed,
+        stage: Stage::Going,
+    }
+}
+
+// The next 16 bytes. 15 and 17 come before any judgement of the record; behind a verdict nothing is looked at.
+pub(crate) fn onward(
+    base: &mut [u8; 32],
+    ready: &mut [u8; 32],
+    delayed: &mut [u8; 32],
+    held: &mut [u8; 32],
+    way: &mut [u8; 32],
+    until: &mut [u64; 32],
+    ceiling: &mut [u8; 8],
+    waiter: &mut [u8; 8],
+    clock: &mut u64,
+    started: &mut bool,
+    h: Head,
+    p: &[u8],
+) -> Head
+    ensures { λ r. ⌜ run-of (tables (now (base .exit)) (now (ready .exit)) (now (delayed .exit)) (now (held .exit)) (now (way .exit)) (now (until .exit)) (now (ceiling .exit)) (now (waiter .exit)) (now (clock .exit)) (now (started .exit))) r ≡ pieces.onward (run-of (tables (now (base .entry)) (now (ready .entry)) (now (delayed .entry)) (now (held .entry)) (now (way .entry)) (now (until .entry)) (now (ceiling .entry)) (now (waiter .entry)) (now (clock .entry)) (now (started .entry))) h) (now (p .entry)) ⌝ }
+{
+    let stage = h.stage;
+    let Stage::Going = stage else {
+        return h;
+    };
+    let place = h.place;
+    let t = record_of(p);
+    let code = choose(is_marked(p), fault(place, t), 15);
+    if code != 0 {
+        return Head {
+            place,
+            seed: seed_shown(code, t.value, h.seed),
+            stage: Stage::Over(refused_at(code, place)),
+        };
+    }
+    // The header: its seed is kept to be shown.
+    if place == 0 {
+        return Head {
+            place: beyond(place),
+            seed: t.value,
+            stage: Stage::Going,
+        };
+    }
+    answered(
+        base,
+        ready,
+        delayed,
+        held,
+        way,
+        until,
+        ceiling,
+        waiter,
+        clock,
+        started,
+        h,
+        t,
+    )
+}
