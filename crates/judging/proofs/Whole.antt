@@ -29,10 +29,11 @@ use Rattle.judging.specs.declared.Verdict.the-variants.{Agrees, Refused 
 use Rattle.judging.specs.declared.Judgement.{Judgement}
 use Rattle.judging.specs.declared.Stage.the-variants.{Going, Over}
 use Rattle.judging.specs.declared.Stage.{Stage}
+use Rattle.judging.specs.declared.in_place.Head.{Head}
 use Rattle.judging.specs.declared.Run.{Run}
 use Rattle.judging.specs.declared.Judge.{Judge}
 use Rattle.judging.specs.Verdict.{command-of, answer-on, shown, same, difference, seed-shown, judged-from, verdict-of}
-use Rattle.judging.specs.Pieces.{to-come, beyond, refused-at, refused, headed, compared, answered, taken, onward, Heard, byte, bytes, heard, kept, at-first, fed, ended, judged-in, joined}
+use Rattle.judging.specs.Pieces.{run-of, to-come, beyond, refused-at, refused, headed, compared, answered, taken, onward, Heard, byte, bytes, heard, kept, at-first, fed, ended, judged-in, joined}
 use Rattle.judging.proofs.Hearing.{bytes-append, bytes-short, bytes-begun, few-begun, take-pad}
 use Rattle.judging.proofs.Exits.{onward-over}
 
@@ -134,7 +135,11 @@ answered-is : (m : Machine) (s : Sound m) (n seed : ℕ) (r : Record) → 16 * n
 unfolding answered compared
 answered-is m s n seed r o =
     let b : beyond (16 * n) ≡ 16 * suc n = rw (lt-ltb (16 * n) 18446744073709551600 o) (omega arith) in
-    rw (stepped-tie m s (command-of r), b, sixteenth n)
+    rw (stepped-tie m s (command-of r), b, sixteenth n) (one-of (same (shown (answer-on r)) (shown (answer m (command-of r)))) _ _)
+  where
+    one-of : (t : Bool) (g h : Head) → run-of (encode (next m (command-of r))) (cond t g h) ≡ cond t (run-of (encode (next m (command-of r))) g) (run-of (encode (next m (command-of r))) h)
+    one-of true g h = refl
+    one-of false g h = refl
 
 end-read : (m : Machine) (n seed v : ℕ) (t : Bool) (l : List Read)
     → judged-from m n (seed-shown (numberOf (cond t (Refused 15) End)) v seed) (cond t (Refused 15) End ∷ l) ≡ record { seed = seed; verdict = cond t (Malformed (record { code = 15; number = n; place = 16 * n })) (Agrees (n - 1)) }

@@ -1,5 +1,4 @@
-// One record of 16 bytes, judged on lent tables: an accepted command is carried out where they lie.
-// (What the step does to them: kernel::in_place.)
+// One record of 16 bytes, judged on lent tables: its command is carried out where they lie.
 ghost use mathlib.Core.Path.{_≡_};
 ghost use Rattle.kernel.specs.Step.{tables};
 ghost use Rattle.judging.specs.Verdict as verdict;
@@ -12,13 +11,14 @@ use crate::refused_at;
 use kernel::Answer;
 use kernel::Command;
 use kernel::TaskID;
+use kernel::in_place::step_trusting;
 use record::Record;
 use record::choose;
 use record::fault;
 use record::is_marked;
 use record::record_of;
 
-// Where a judge stands, beside the tables: all of a run but its machine.
+// Where a judge stands beside its machine: all of a run but the tables.
 pub(crate) struct Head {
     pub(crate) place: usize,
     pub(crate) seed: u64,
@@ -48,61 +48,39 @@ fn seed_shown(code: u8, value: u64, seed: u64) -> u64
     if code == 17 { value } else { seed }
 }
 
-// A command record. From Judge::fresh on the tables are always sound (proofs/Whole), so the step does not test them. Of tables that
-// somebody made up the answer is steppedOf's, and no rule speaks of it. The step comes first: behind a record that differs the tables are
-// the step's, too, and nobody looks at them.
-fn answered(
-    base: &mut [u8; 32],
-    ready: &mut [u8; 32],
-    delayed: &mut [u8; 32],
-    held: &mut [u8; 32],
-    way: &mut [u8; 32],
-    until: &mut [u64; 32],
-    ceiling: &mut [u8; 8],
-    waiter: &mut [u8; 8],
-    clock: &mut u64,
-    started: &mut bool,
-    h: Head,
-    t: Record,
-) -> Head
-    ensures { λ r. ⌜ run-of (tables (now (base .exit)) (now (ready .exit)) (now (delayed .exit)) (now (held .exit)) (now (way .exit)) (now (until .exit)) (now (ceiling .exit)) (now (waiter .exit)) (now (clock .exit)) (now (started .exit))) r ≡ pieces.answered (run-of (tables (now (base .entry)) (now (ready .entry)) (now (delayed .entry)) (now (held .entry)) (now (way .entry)) (now (until .entry)) (now (ceiling .entry)) (now (waiter .entry)) (now (clock .entry)) (now (started .entry))) h) t ⌝ }
+fn command_of(t: Record) -> Command
+    ensures { λ r. ⌜ r ≡ verdict.command-shown t ⌝ }
 {
-    let command = Command {
+    Command {
         op: t.op,
         a: t.a,
         b: t.b,
         value: t.value,
-    };
+    }
+}
+
+// Behind a command record, whose answer by the rules is there: on to the next place, or the first that differs.
+fn compared(h: Head, t: Record, rules: Answer) -> Head
+    ensures { λ r. ⌜ r ≡ pieces.compared h t rules ⌝ }
+{
+    let place = h.place;
     let tape = Answer {
         code: t.code,
         running: TaskID(t.running),
         released: TaskID(t.released),
     };
-    let rules = kernel::in_place::step_trusting(
-        base,
-        ready,
-        delayed,
-        held,
-        way,
-        until,
-        ceiling,
-        waiter,
-        clock,
-        started,
-        command,
-    );
-    let place = h.place;
     if !same(tape, rules) {
         let number = place >> 4;
+        let found = Verdict::Differs(Difference {
+            number,
+            command: command_of(t),
+            tape,
+            rules,
+        });
         return Head {
             place,
             seed: h.seed,
-            stage: Stage::Over(Verdict::Differs(Difference {
-                number,
-                command,
-                tape,
-                rules,
-            })),
+            stage: Stage::Over(found),
         };
     }
     Head {
@@ -113,6 +91,8 @@ fn answered(
 }
 
 // The next 16 bytes. 15 and 17 come before any judgement of the record; behind a verdict nothing is looked at.
+// From Judge::fresh on the tables are always sound (proofs/Whole), so the step does not test them. Of tables that somebody made up the answer
+// is steppedOf's, and no rule speaks of it. Behind a record that differs they are the step's, as behind one that agrees.
 pub(crate) fn onward(
     base: &mut [u8; 32],
     ready: &mut [u8; 32],
@@ -151,7 +131,7 @@ pub(crate) fn onward(
             stage: Stage::Going,
         };
     }
-    answered(
+    let rules = step_trusting(
         base,
         ready,
         delayed,
@@ -162,7 +142,7 @@ pub(crate) fn onward(
         waiter,
         clock,
         started,
-        h,
-        t,
-    )
+        command_of(t),
+    );
+    compared(h, t, rules)
 }

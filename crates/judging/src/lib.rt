@@ -78,23 +78,23 @@ pub(crate) fn refused_at(code: u8, place: usize) -> Verdict
 }
 
 impl Run {
-    // The records that lie whole in a piece from a place on. What is left of the piece is held. The machine is taken into locals, and each
-    // record is judged there: no turn copies it. (One call in the loop and no other: so it is compiled into the loop.)
+    // The records that lie whole in a piece from a place on. What is left of the piece is held. The machine is taken into locals once, and each
+    // record is judged on them: no turn copies it. Nobody else calls `onward`, so it is compiled into the loop.
     fn through(self, piece: &[u8], from: usize) -> Judge
         requires { ⌜ from ≤ length (now piece) ⌝ }
         ensures { λ r. ⌜ r ≡ pieces.through self (drop from (now (piece .entry))) ⌝ }
     {
-        let k = self.kernel;
-        let mut base = k.base;
-        let mut ready = k.ready;
-        let mut delayed = k.delayed;
-        let mut held = k.held;
-        let mut way = k.way;
-        let mut until = k.until;
-        let mut ceiling = k.ceiling;
-        let mut waiter = k.waiter;
-        let mut clock = k.clock;
-        let mut started = k.started;
+        let machine = self.kernel;
+        let mut base = machine.base;
+        let mut ready = machine.ready;
+        let mut delayed = machine.delayed;
+        let mut held = machine.held;
+        let mut way = machine.way;
+        let mut until = machine.until;
+        let mut ceiling = machine.ceiling;
+        let mut waiter = machine.waiter;
+        let mut clock = machine.clock;
+        let mut started = machine.started;
         let stage = self.stage;
         let mut head = Head {
             place: self.place,
@@ -120,7 +120,7 @@ impl Run {
             );
             at = end;
         }
-        let kernel = Kernel {
+        let next = Kernel {
             base,
             ready,
             delayed,
@@ -134,15 +134,15 @@ impl Run {
         };
         let stage = head.stage;
         let run = Run {
-            kernel,
+            kernel: next,
             place: head.place,
             seed: head.seed,
             stage,
         };
-        let left = together([0; 16], 0, &piece[at..]);
+        let rest = together([0; 16], 0, &piece[at..]);
         Judge {
             run,
-            held: left,
+            held: rest,
             count: piece.len() - at,
         }
     }
@@ -237,6 +237,7 @@ impl Judge {
                 count: n + piece.len(),
             };
         }
+        // The record that was begun goes through alone, and then the rest of the piece.
         let whole = run.through(&first, 0);
         let next = whole.run;
         next.through(piece, wanted)

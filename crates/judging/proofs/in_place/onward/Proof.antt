@@ -1,13 +1,13 @@
 -- `onward` in place meets its contract: its number is the reader's of 16 bytes, and each way out is the definition's case (Exits). Assumes nothing.
 use native.Mathlib.Omega.{arith}
-use mathlib.Core.Path.{_≡_, _∙_}
+use mathlib.Core.Path.{_≡_, ap, _∙_}
 use Rattle.kernel.specs.Step.{tables}
 use Rattle.record.proofs.Faults.{bytesFault}
 use Rattle.tape.proofs.Reading.{number-so}
 use Rattle.judging.specs.declared.Stage.the-variants.{Going}
 use Rattle.judging.specs.declared.Run.{Run}
-use Rattle.judging.specs.Pieces.{run-of}
-use Rattle.judging.proofs.Exits.{onward-over, onward-refused, onward-header, onward-command}
+use Rattle.judging.specs.Pieces.{run-of, answered}
+use Rattle.judging.proofs.Exits.{onward-over, onward-refused, onward-header, onward-command, stepped}
 use borrow.Author.Needs.{needs}
 use Rattle.judging.proofs.in_place.onward.Statement.{statement}
 use Rattle.judging.proofs.in_place.onward.Tie as tie
@@ -68,15 +68,25 @@ returns-3 c =
     rw (c .beyond .ensures, k .before .before .before .record-of .ensures)
     (onward-header (lent (start k)) (start k .args .p .now) (going k) (k .choose .result) (number k) (omega arith) (c .before .if2 .taken))
 
-answered-requires : tie.Need-answered-requires
-answered-requires c κs = search needs
+command-of-requires : tie.Need-command-of-requires
+command-of-requires c κs = search needs
+
+step-trusting-requires : tie.Need-step-trusting-requires
+step-trusting-requires c κs = search needs
+
+compared-requires : tie.Need-compared-requires
+compared-requires c κs = search needs
 
 returns-4 : tie.Need-returns-4
 returns-4 c =
-    let t = c .before .before .before .before .before .before .before .before .before .before .before in
+    let d = c .before .before .command-of in
+    let u = c .before .step-trusting .ensures in
+    let t = c .before .before .before .before .before .before .before .before .before .before .before .before .before in
     let k = t .before .before in
-    rw (c .answered .ensures, k .before .before .before .record-of .ensures)
-    (onward-command (lent (start k)) (start k .args .p .now) (going k) (k .choose .result) (number k) (omega arith) (t .if2 .left))
+    let r = k .before .before .before .record-of in
+    rw (c .compared .ensures)
+    (stepped (lent (start k)) (r .result) (d .result) _ _ (d .ensures) (u .0) (u .1) ∙ ap (answered (lent (start k))) (r .ensures)
+    ∙ onward-command (lent (start k)) (start k .args .p .now) (going k) (k .choose .result) (number k) (omega arith) (t .if2 .left))
 
 pub onward-spec : {M : Type 1} → statement M
 onward-spec =
@@ -94,5 +104,7 @@ onward-spec =
     returns-2
     beyond-requires
     returns-3
-    answered-requires
+    command-of-requires
+    step-trusting-requires
+    compared-requires
     returns-4)
