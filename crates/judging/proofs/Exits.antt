@@ -16,20 +16,19 @@ use Rattle.record.specs.Form.{recordOf}
 use Rattle.record.proofs.Faults.{bytesFault}
 use Rattle.tape.proofs.Reading.{judged-not, judged-is}
 use Rattle.judging.specs.declared.Verdict.{Verdict}
-use Rattle.judging.specs.declared.Verdict.the-variants.{Agrees, Differs}
+use Rattle.judging.specs.declared.Verdict.the-variants.{Agrees}
 use Rattle.judging.specs.declared.Stage.{Stage}
 use Rattle.judging.specs.declared.Stage.the-variants.{Going, Over}
 use Rattle.judging.specs.declared.in_place.Head.{Head}
 use Rattle.judging.specs.declared.Run.{Run}
-use Rattle.judging.specs.Verdict.{command-shown, answer-on, shown, same}
+use Rattle.judging.specs.Verdict.{command-shown, answer-on, shown, same, difference}
 use Rattle.judging.specs.Pieces.{run-of, head-of, beyond, refused-at, refused, headed, compared, answered, taken, onward, at-end}
 
 -- ---- a command record
 module _ (h : Head) (r : Record) (a : Answer) (t : Bool) (f : t ≡ same (shown (answer-on r)) a) where
-  pub differing : (d : Command) → d ≡ command-shown r → t ≡ false
-      → record { place = h .place; seed = h .seed; stage = Over (Differs (record { number = h .place / 16; command = d; tape = shown (answer-on r); rules = a })) } ≡ compared h r a
+  pub differing : t ≡ false → record { place = h .place; seed = h .seed; stage = Over (difference (h .place / 16) r a) } ≡ compared h r a
   unfolding compared
-  differing d e n = rw (← f, n, e)
+  differing n = rw (← f, n)
 
   pub agreeing : (at : ℕ) → at ≡ beyond (h .place) → t ≡ true → record { place = at; seed = h .seed; stage = Going } ≡ compared h r a
   unfolding compared

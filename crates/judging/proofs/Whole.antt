@@ -15,6 +15,7 @@ use Rattle.rules.specs.Machine.{Machine, Command, fresh}
 use Rattle.rules.specs.Run.{next, answer}
 use Rattle.rules.proofs.Sounds.{Sound}
 use Rattle.rules.proofs.Step.{next-sound, fresh-sound}
+use Rattle.kernel.specs.declared.Kernel.{Kernel}
 use Rattle.kernel.specs.View.{encode, pad}
 use Rattle.kernel.proofs.Whole.{stepped-tie}
 use Rattle.record.specs.declared.Record.{Record}
@@ -78,7 +79,7 @@ verdict-stays j p n = go (j .run .stage) refl n
 abbrev going : Machine → ℕ → ℕ → Run
 going m n seed = record { kernel = encode m; place = 16 * n; seed = seed; stage = Going }
 
--- and where record n was the last to be looked at
+-- and behind a verdict on record n
 abbrev over : Machine → ℕ → ℕ → Verdict → Run
 over m n seed v = record { kernel = encode m; place = 16 * n; seed = seed; stage = Over v }
 
@@ -128,18 +129,20 @@ unfolding ended bytes
 end-said m zero seed = refl
 end-said m (suc n) seed = let o : ltb (16 * suc n) 16 ≡ false = le-ltb (16 * suc n) 16 (omega arith) in rw (o, sixteenth (suc n), ne-eqb (suc n) 0 (λ e. omega arith))
 
+-- one machine beside one of two heads
+one-of : (k : Kernel) (t : Bool) (g h : Head) → run-of k (cond t g h) ≡ cond t (run-of k g) (run-of k h)
+one-of k true g h = refl
+one-of k false g h = refl
+
 -- a command record: the step on the tables is the rules'
 answered-is : (m : Machine) (s : Sound m) (n seed : ℕ) (r : Record) → 16 * n < 18446744073709551600
     → answered (going m n seed) r
-    ≡ cond (same (shown (answer-on r)) (shown (answer m (command-of r)))) (going (next m (command-of r)) (suc n) seed) (over (next m (command-of r)) n seed (difference n r (shown (answer m (command-of r)))))
+    ≡ cond (same (shown (answer-on r)) (shown (answer m (command-of r)))) (going (next m (command-of r)) (suc n) seed)
+    (over (next m (command-of r)) n seed (difference n r (shown (answer m (command-of r)))))
 unfolding answered compared
 answered-is m s n seed r o =
     let b : beyond (16 * n) ≡ 16 * suc n = rw (lt-ltb (16 * n) 18446744073709551600 o) (omega arith) in
-    rw (stepped-tie m s (command-of r), b, sixteenth n) (one-of (same (shown (answer-on r)) (shown (answer m (command-of r)))) _ _)
-  where
-    one-of : (t : Bool) (g h : Head) → run-of (encode (next m (command-of r))) (cond t g h) ≡ cond t (run-of (encode (next m (command-of r))) g) (run-of (encode (next m (command-of r))) h)
-    one-of true g h = refl
-    one-of false g h = refl
+    rw (stepped-tie m s (command-of r), b, sixteenth n) (one-of (encode (next m (command-of r))) (same (shown (answer-on r)) (shown (answer m (command-of r)))) _ _)
 
 end-read : (m : Machine) (n seed v : ℕ) (t : Bool) (l : List Read)
     → judged-from m n (seed-shown (numberOf (cond t (Refused 15) End)) v seed) (cond t (Refused 15) End ∷ l) ≡ record { seed = seed; verdict = cond t (Malformed (record { code = 15; number = n; place = 16 * n })) (Agrees (n - 1)) }

@@ -5,11 +5,13 @@ ghost use Rattle.judging.specs.Verdict as verdict;
 ghost use Rattle.judging.specs.Pieces as pieces;
 ghost use Rattle.judging.specs.Pieces.{run-of};
 use crate::Difference;
+use crate::Run;
 use crate::Stage;
 use crate::Verdict;
 use crate::refused_at;
 use kernel::Answer;
 use kernel::Command;
+use kernel::Kernel;
 use kernel::TaskID;
 use kernel::in_place::step_trusting;
 use record::Record;
@@ -91,9 +93,10 @@ fn compared(h: Head, t: Record, rules: Answer) -> Head
 }
 
 // The next 16 bytes. 15 and 17 come before any judgement of the record; behind a verdict nothing is looked at.
-// From Judge::fresh on the tables are always sound (proofs/Whole), so the step does not test them. Of tables that somebody made up the answer
-// is steppedOf's, and no rule speaks of it. Behind a record that differs they are the step's, as behind one that agrees.
-pub(crate) fn onward(
+// From Judge::fresh on the tables are always sound (proofs/Whole), so the step does not test them. Of tables that
+// somebody made up the answer is steppedOf's, and no rule speaks of it. Behind a record that differs they are the
+// step's, as behind one that agrees.
+fn onward(
     base: &mut [u8; 32],
     ready: &mut [u8; 32],
     delayed: &mut [u8; 32],
@@ -145,4 +148,62 @@ pub(crate) fn onward(
         command_of(t),
     );
     compared(h, t, rules)
+}
+
+// The records that lie whole in a piece, from its start on. The machine comes as its tables, and each record is judged
+// on them where they lie: no turn copies them. Nobody else calls `onward`, so it is compiled into the loop.
+pub(crate) fn records(
+    mut base: [u8; 32],
+    mut ready: [u8; 32],
+    mut delayed: [u8; 32],
+    mut held: [u8; 32],
+    mut way: [u8; 32],
+    mut until: [u64; 32],
+    mut ceiling: [u8; 8],
+    mut waiter: [u8; 8],
+    mut clock: u64,
+    mut started: bool,
+    mut head: Head,
+    piece: &[u8],
+) -> Run
+    ensures { λ r. ⌜ r ≡ pieces.through (run-of (tables base ready delayed held way until ceiling waiter clock started) head) (now (piece .entry)) .run ⌝ }
+{
+    let mut at = 0;
+    while 16 <= piece.len() - at {
+        let end = at + 16;
+        head = onward(
+            &mut base,
+            &mut ready,
+            &mut delayed,
+            &mut held,
+            &mut way,
+            &mut until,
+            &mut ceiling,
+            &mut waiter,
+            &mut clock,
+            &mut started,
+            head,
+            &piece[at..end],
+        );
+        at = end;
+    }
+    let kernel = Kernel {
+        base,
+        ready,
+        delayed,
+        held,
+        way,
+        until,
+        ceiling,
+        waiter,
+        clock,
+        started,
+    };
+    let stage = head.stage;
+    Run {
+        kernel,
+        place: head.place,
+        seed: head.seed,
+        stage,
+    }
 }

@@ -78,49 +78,28 @@ pub(crate) fn refused_at(code: u8, place: usize) -> Verdict
 }
 
 impl Run {
-    // The records that lie whole in a piece from a place on. What is left of the piece is held. The machine is taken into locals once, and each
-    // record is judged on them: no turn copies it. Nobody else calls `onward`, so it is compiled into the loop.
-    fn through(self, piece: &[u8], from: usize) -> Judge
-        requires { ⌜ from ≤ length (now piece) ⌝ }
-        ensures { λ r. ⌜ r ≡ pieces.through self (drop from (now (piece .entry))) ⌝ }
+    // The records that lie whole in a piece, from its start on.
+    fn records(self, piece: &[u8]) -> Run
+        ensures { λ r. ⌜ r ≡ pieces.through self (now (piece .entry)) .run ⌝ }
     {
         let machine = self.kernel;
-        let mut base = machine.base;
-        let mut ready = machine.ready;
-        let mut delayed = machine.delayed;
-        let mut held = machine.held;
-        let mut way = machine.way;
-        let mut until = machine.until;
-        let mut ceiling = machine.ceiling;
-        let mut waiter = machine.waiter;
-        let mut clock = machine.clock;
-        let mut started = machine.started;
+        let base = machine.base;
+        let ready = machine.ready;
+        let delayed = machine.delayed;
+        let held = machine.held;
+        let way = machine.way;
+        let until = machine.until;
+        let ceiling = machine.ceiling;
+        let waiter = machine.waiter;
+        let clock = machine.clock;
+        let started = machine.started;
         let stage = self.stage;
-        let mut head = Head {
+        let head = Head {
             place: self.place,
             seed: self.seed,
             stage,
         };
-        let mut at = from;
-        while 16 <= piece.len() - at {
-            let end = at + 16;
-            head = in_place::onward(
-                &mut base,
-                &mut ready,
-                &mut delayed,
-                &mut held,
-                &mut way,
-                &mut until,
-                &mut ceiling,
-                &mut waiter,
-                &mut clock,
-                &mut started,
-                head,
-                &piece[at..end],
-            );
-            at = end;
-        }
-        let next = Kernel {
+        in_place::records(
             base,
             ready,
             delayed,
@@ -131,18 +110,21 @@ impl Run {
             waiter,
             clock,
             started,
-        };
-        let stage = head.stage;
-        let run = Run {
-            kernel: next,
-            place: head.place,
-            seed: head.seed,
-            stage,
-        };
-        let rest = together([0; 16], 0, &piece[at..]);
+            head,
+            piece,
+        )
+    }
+
+    // The same, and what is left of the piece is held.
+    fn through(self, piece: &[u8]) -> Judge
+        ensures { λ r. ⌜ r ≡ pieces.through self (now (piece .entry)) ⌝ }
+    {
+        let run = self.records(piece);
+        let at = 16 * (piece.len() >> 4);
+        let held = together([0; 16], 0, &piece[at..]);
         Judge {
             run,
-            held: rest,
+            held,
             count: piece.len() - at,
         }
     }
@@ -237,10 +219,9 @@ impl Judge {
                 count: n + piece.len(),
             };
         }
-        // The record that was begun goes through alone, and then the rest of the piece.
-        let whole = run.through(&first, 0);
-        let next = whole.run;
-        next.through(piece, wanted)
+        // The record that was begun is whole now, and is judged alone.
+        let whole = run.records(&first);
+        whole.through(&piece[wanted..])
     }
 
     // Whether a verdict is still to come. Behind it no piece changes anything (proofs/Whole, verdict-stays), so nothing more need be read.

@@ -15,7 +15,7 @@ returns : tie.Need-returns
 returns c =
     let a = c .before .before .before .args in
     let s = c .before .before .same in
-    differing (a .h) (a .t) (a .rules) (s .result) (s .ensures) (c .command-of .result) (c .command-of .ensures) (not-true _ (c .before .if1 .taken))
+    rw (c .command-of .ensures) (differing (a .h) (a .t) (a .rules) (s .result) (s .ensures) (not-true _ (c .before .if1 .taken)))
 
 beyond-requires : tie.Need-beyond-requires
 beyond-requires c κs = search needs

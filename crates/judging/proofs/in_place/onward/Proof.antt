@@ -14,7 +14,10 @@ use Rattle.judging.proofs.in_place.onward.Tie as tie
 
 -- the run that is lent
 abbrev lent : tie.Start → Run
-lent s = let a = s .args in run-of (tables (a .base .now) (a .ready .now) (a .delayed .now) (a .held .now) (a .way .now) (a .until .now) (a .ceiling .now) (a .waiter .now) (a .clock .now) (a .started .now)) (a .h)
+lent s =
+    let a = s .args in
+    run-of (tables (a .base .now) (a .ready .now) (a .delayed .now) (a .held .now) (a .way .now)
+    (a .until .now) (a .ceiling .now) (a .waiter .now) (a .clock .now) (a .started .now)) (a .h)
 
 enum-told : tie.Need-enum-told
 enum-told c = search needs
@@ -45,7 +48,9 @@ going : (c : tie.After-choose) → lent (start c) .stage ≡ Going
 going c = c .before .before .before .before .enum-told .given .1
 
 number : (c : tie.After-choose) → c .choose .result ≡ bytesFault (lent (start c) .place) (start c .args .p .now)
-number c = number-so (lent (start c) .place) (start c .args .p .now) (c .choose .ensures) (c .before .before .is-marked .ensures) (c .before .fault .ensures) (c .before .before .before .record-of .ensures)
+number c =
+    number-so (lent (start c) .place) (start c .args .p .now) (c .choose .ensures)
+    (c .before .before .is-marked .ensures) (c .before .fault .ensures) (c .before .before .before .record-of .ensures)
 
 seed-shown-requires : tie.Need-seed-shown-requires
 seed-shown-requires c κs = search needs
