@@ -48,14 +48,15 @@ refused x code value = record { kernel = x .kernel; place = x .place; seed = see
 abbrev pub headed : Run → ℕ → Run
 headed x seed = record { kernel = x .kernel; place = beyond (x .place); seed = seed; stage = Going }
 
--- Where a judge stands behind a command record, beside the rules' answer to it: at the next place; or the record is the first that differs.
+-- Where a judge stands behind a command record, beside the rules' answer to it: at the next place; or the record is the
+-- first that differs.
 unfoldable pub compared : Head → Record → Answer → Head
 compared h r a =
     cond (same (shown (answer-on r)) a) (record { place = beyond (h .place); seed = h .seed; stage = Going })
     (record { place = h .place; seed = h .seed; stage = Over (difference (h .place / 16) r a) })
 
--- A command record, by the step on the tables. The machine is the step's next one, also where the answers differ: behind a verdict nothing is looked
--- at, and no judgement goes by it.
+-- A command record, by the step on the tables. The machine is the step's next one, also where the answers differ: behind
+-- a verdict nothing is looked at, and no judgement goes by that machine.
 unfoldable pub answered : Run → Record → Run
 answered x r =
     let s = steppedOf (x .kernel) (command-of r) in

@@ -1,4 +1,4 @@
-// One record of 16 bytes, judged on lent tables: its command is carried out where they lie.
+// The records of a piece, judged on the machine's tables: each command is carried out where they lie.
 ghost use mathlib.Core.Path.{_≡_};
 ghost use Rattle.kernel.specs.Step.{tables};
 ghost use Rattle.judging.specs.Verdict as verdict;

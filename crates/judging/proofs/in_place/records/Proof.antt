@@ -25,25 +25,25 @@ loop-holds : tie.Need-loop-holds Inv-loop μ-loop
 loop-holds c = (omega arith, refl)
 
 sub-loop : tie.Need-sub-loop Inv-loop μ-loop
-sub-loop c = search needs
+sub-loop c = omega arith
 
 add-end : tie.Need-add-end Inv-loop μ-loop
-add-end c = search needs
+add-end c = omega arith
 
 sub-onward : tie.Need-sub-onward Inv-loop μ-loop
-sub-onward c = search needs
+sub-onward c = omega arith
 
 part-onward-start : tie.Need-part-onward-start Inv-loop μ-loop
-part-onward-start c = search needs
+part-onward-start c = omega arith
 
 part-onward-end : tie.Need-part-onward-end Inv-loop μ-loop
-part-onward-end c = search needs
+part-onward-end c = omega arith
 
 onward-requires : tie.Need-onward-requires Inv-loop μ-loop
 onward-requires c κs = search needs
 
 loop-less : tie.Need-loop-less Inv-loop μ-loop
-loop-less c = search needs
+loop-less c = omega arith
 
 loop-again : tie.Need-loop-again Inv-loop μ-loop
 loop-again c =
