@@ -6,7 +6,10 @@ use mathlib.Core.Bool.{Bool, true, false, not, _||_}
 use mathlib.Core.List.{List}
 use borrow.Author.Tests.{eq-eqb, ne-eqb}
 use lib.Dec.{eqb, ltb}
-use Rattle.kernel.specs.declared.Stepped.{Stepped}
+use Rattle.kernel.specs.declared.Kernel.{Kernel}
+use Rattle.kernel.specs.declared.command.Command.{Command}
+use Rattle.kernel.specs.declared.command.Answer.{Answer}
+use Rattle.kernel.specs.Public.{said}
 use Rattle.kernel.specs.Step.{steppedOf}
 use Rattle.record.specs.declared.Record.{Record}
 use Rattle.record.specs.Form.{recordOf}
@@ -16,19 +19,26 @@ use Rattle.judging.specs.declared.Verdict.{Verdict}
 use Rattle.judging.specs.declared.Verdict.the-variants.{Agrees}
 use Rattle.judging.specs.declared.Stage.{Stage}
 use Rattle.judging.specs.declared.Stage.the-variants.{Going, Over}
+use Rattle.judging.specs.declared.in_place.Head.{Head}
 use Rattle.judging.specs.declared.Run.{Run}
-use Rattle.judging.specs.Verdict.{command-of, answer-on, shown, same, difference}
-use Rattle.judging.specs.Pieces.{beyond, refused-at, refused, over, headed, compared, answered, taken, onward, at-end}
+use Rattle.judging.specs.Verdict.{command-shown, answer-on, shown, same, difference}
+use Rattle.judging.specs.Pieces.{run-of, head-of, beyond, refused-at, refused, headed, compared, answered, taken, onward, at-end}
 
 -- ---- a command record
-module _ (x : Run) (r : Record) (s : Stepped) (e : s ≡ steppedOf (x .kernel) (command-of r)) (t : Bool) (f : t ≡ same (shown (answer-on r)) (s .answer)) where
-  pub differing : t ≡ false → over x (difference (x .place / 16) r (s .answer)) ≡ answered x r
-  unfolding answered compared
-  differing n = rw (← e, ← f, n)
+module _ (h : Head) (r : Record) (a : Answer) (t : Bool) (f : t ≡ same (shown (answer-on r)) a) where
+  pub differing : t ≡ false → record { place = h .place; seed = h .seed; stage = Over (difference (h .place / 16) r a) } ≡ compared h r a
+  unfolding compared
+  differing n = rw (← f, n)
 
-  pub agreeing : (at : ℕ) → at ≡ beyond (x .place) → t ≡ true → record { kernel = s .next; place = at; seed = x .seed; stage = Going } ≡ answered x r
-  unfolding answered compared
-  agreeing at q y = rw (← e, ← f, y, q)
+  pub agreeing : (at : ℕ) → at ≡ beyond (h .place) → t ≡ true → record { place = at; seed = h .seed; stage = Going } ≡ compared h r a
+  unfolding compared
+  agreeing at q y = rw (← f, y, q)
+
+-- the step's tables and answer, of the command that the record has
+pub stepped : (x : Run) (r : Record) (d : Command) (k : Kernel) (a : Answer) → d ≡ command-shown r
+    → k ≡ steppedOf (x .kernel) (said d) .next → a ≡ steppedOf (x .kernel) (said d) .answer → run-of k (compared (head-of x) r a) ≡ answered x r
+unfolding answered
+stepped x r d k a e n s = rw (n, s, e)
 
 -- ---- 16 bytes
 pub onward-over : (x : Run) (p : List ℕ) (v : Verdict) → x .stage ≡ Over v → x ≡ onward x p

@@ -1,6 +1,6 @@
 -- Laws of a judge that hears a tape byte by byte: bytes behind bytes, bytes that make no record yet, and the sixteenth, which makes one whole. So the
 -- code, which takes a record where it lies, does what single bytes would. Assumes nothing.
-use Prim.Native.Nat.{ℕ, zero, suc, _+_, _-_, _≤_, _<_, min}
+use Prim.Native.Nat.{ℕ, zero, suc, _+_, _-_, _*_, _/_, _≤_, _<_, min}
 use native.Mathlib.Nat.{le-of-eq, min-le-left}
 use native.Mathlib.Numerals.{add-one}
 use native.Mathlib.Omega.{arith}
@@ -13,6 +13,7 @@ use lib.ListN.{length, take, drop, getD, set, List·getD-append, List·getD-eq-d
 use lib.Seq.{length-take-le, getD-take, getD-append-add, take-suc-set, take-suc, take-all, drop-drop}
 use Rattle.tape.proofs.Reading.{sixteen}
 use Rattle.kernel.specs.View.{pad}
+use Rattle.kernel.proofs.Padded.{pad-size}
 use Rattle.judging.specs.declared.Run.{Run}
 use Rattle.judging.specs.declared.Judge.{Judge}
 use Rattle.judging.specs.Pieces.{Heard, byte, bytes, heard, fed, through, onward}
@@ -120,6 +121,11 @@ few-begun h (b ∷ p) o = few-begun (byte h b) p (one-more h b o)
 
 -- ---- the code's ways
 
+-- a record alone
+through-one : (x : Run) (l : List ℕ) → length l ≡ 16 → (through x l) .run ≡ onward x l
+unfolding through
+through-one x l e = rw (bytes-whole x [] l (omega arith) (omega arith))
+
 -- a piece too short for a record
 pub fed-short : (j : Judge) (p l : List ℕ) → l ≡ heard j .begun → length l + length p ≤ 15 → record { run = j .run; held = pad 16 (l ++ p); count = length l + length p } ≡ fed j p
 unfolding fed
@@ -147,22 +153,39 @@ module _ (j : Judge) (p : List ℕ) (n : ℕ) (en : n ≡ min 15 (j .count)) (z 
   pub feed-short : length p < 16 - n → record { run = j .run; held = first; count = n + length p } ≡ fed j p
   feed-short o = rw ef (rw begun-long at (fed-short j p (take n (j .held)) begun-is (rw begun-long (omega arith))))
 
-  pub feed-whole : (y : Run) → y ≡ onward (j .run) first → 16 - n ≤ length p → through y (drop (16 - n) p) ≡ fed j p
-  feed-whole y ey o = let f : n ≤ 15 = few in rw (ey, ef) (rw begun-long at (fed-whole j p (take n (j .held)) begun-is (rw begun-long f) (rw begun-long (omega arith))))
+  pub feed-whole : (y : Run) → y ≡ (through (j .run) first) .run → 16 - n ≤ length p → through y (take (length p - (16 - n)) (drop (16 - n) p)) ≡ fed j p
+  feed-whole y ey o =
+      let f : n ≤ 15 = few in
+      let whole : length first ≡ 16 = rw ef (pad-size 16 (take n (j .held) ++ p)) in
+      rw (take-all (length p - (16 - n)) (drop (16 - n) p) (le-of-eq (length-drop (16 - n) p)), ey, through-one (j .run) first whole, ef)
+      (rw begun-long at (fed-whole j p (take n (j .held)) begun-is (rw begun-long f) (rw begun-long (omega arith))))
 
 -- whole records, and what is left
 pub through-record : (x : Run) (l : List ℕ) → 16 ≤ length l → through (onward x (take 16 l)) (drop 16 l) ≡ through x l
 unfolding through
 through-record x l o = rw (bytes-begun x [] l (omega arith) (omega arith))
 
-pub through-rest : (x : Run) (l : List ℕ) → length l ≤ 15 → record { run = x; held = pad 16 l; count = length l } ≡ through x l
-unfolding through
-through-rest x l o = rw (bytes-short x [] l (omega arith))
+-- what is left behind k records
+left-over : (k : ℕ) (x : Run) (l : List ℕ) → 16 * k ≤ length l → length l < 16 * k + 16 → bytes (record { run = x; begun = [] }) l .begun ≡ drop (16 * k) l
+left-over zero x l a b = rw (bytes-short x [] l (omega arith))
+left-over (suc k) x l a b =
+    let e : 16 * suc k ≡ 16 + 16 * k = omega arith in
+    let d : length (drop 16 l) ≡ length l - 16 = length-drop 16 l in
+    rw (bytes-begun x [] l (omega arith) (omega arith), e, left-over k (onward x (take 16 l)) (drop 16 l) (omega arith) (omega arith)) (drop-drop (16 * k) 16 l)
 
 -- a turn of the loop over a piece, and its end
-pub through-turn : (x y : Run) (s : List ℕ) (at : ℕ) → y ≡ onward x (take (at + 16 - at) (drop at s)) → at + 16 ≤ length s → through y (drop (at + 16) s) ≡ through x (drop at s)
+pub through-turn : (x y : Run) (s : List ℕ) (at : ℕ) → y ≡ onward x (take (at + 16 - at) (drop at s)) → at + 16 ≤ length s
+    → through y (drop (at + 16) s) ≡ through x (drop at s)
 through-turn x y s at e o = rw (e, sixteen s at, ← drop-drop 16 at s) (through-record x (drop at s) (rw (length-drop at s) (omega arith)))
 
-pub through-end : (x : Run) (s : List ℕ) (at : ℕ) (held : List ℕ) → held ≡ pad 16 (take (length s - at) (drop at s)) → length s - at ≤ 15 → record { run = x; held = held; count = length s - at } ≡ through x (drop at s)
-through-end x s at held e o =
-    rw (e, take-all (length s - at) (drop at s) (le-of-eq (length-drop at s)), ← length-drop at s) (through-rest x (drop at s) (rw (length-drop at s) o))
+pub through-end : (x : Run) (s : List ℕ) (at : ℕ) → length s - at ≤ 15 → x ≡ (through x (drop at s)) .run
+unfolding through
+through-end x s at o = rw (bytes-short x [] (drop at s) (rw (length-drop at s) (omega arith)))
+
+-- the run behind a piece, and what is left of it
+pub through-rest : (x y : Run) (s : List ℕ) (at : ℕ) (held : List ℕ) → y ≡ (through x s) .run → at ≡ 16 * (length s / 16)
+    → held ≡ pad 16 (take (length s - at) (drop at s)) → record { run = y; held = held; count = length s - at } ≡ through x s
+unfolding through
+through-rest x y s at held ey ea eh =
+    let b : bytes (record { run = x; begun = [] }) s .begun ≡ drop at s = rw ea (left-over (length s / 16) x s (omega arith) (omega arith)) in
+    rw (ey, eh, take-all (length s - at) (drop at s) (le-of-eq (length-drop at s)), b, length-drop at s)

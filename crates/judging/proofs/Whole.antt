@@ -15,6 +15,7 @@ use Rattle.rules.specs.Machine.{Machine, Command, fresh}
 use Rattle.rules.specs.Run.{next, answer}
 use Rattle.rules.proofs.Sounds.{Sound}
 use Rattle.rules.proofs.Step.{next-sound, fresh-sound}
+use Rattle.kernel.specs.declared.Kernel.{Kernel}
 use Rattle.kernel.specs.View.{encode, pad}
 use Rattle.kernel.proofs.Whole.{stepped-tie}
 use Rattle.record.specs.declared.Record.{Record}
@@ -29,10 +30,11 @@ use Rattle.judging.specs.declared.Verdict.the-variants.{Agrees, Refused 
 use Rattle.judging.specs.declared.Judgement.{Judgement}
 use Rattle.judging.specs.declared.Stage.the-variants.{Going, Over}
 use Rattle.judging.specs.declared.Stage.{Stage}
+use Rattle.judging.specs.declared.in_place.Head.{Head}
 use Rattle.judging.specs.declared.Run.{Run}
 use Rattle.judging.specs.declared.Judge.{Judge}
 use Rattle.judging.specs.Verdict.{command-of, answer-on, shown, same, difference, seed-shown, judged-from, verdict-of}
-use Rattle.judging.specs.Pieces.{to-come, beyond, refused-at, refused, over, headed, compared, answered, taken, onward, Heard, byte, bytes, heard, kept, at-first, fed, ended, judged-in, joined}
+use Rattle.judging.specs.Pieces.{run-of, to-come, beyond, refused-at, refused, headed, compared, answered, taken, onward, Heard, byte, bytes, heard, kept, at-first, fed, ended, judged-in, joined}
 use Rattle.judging.proofs.Hearing.{bytes-append, bytes-short, bytes-begun, few-begun, take-pad}
 use Rattle.judging.proofs.Exits.{onward-over}
 
@@ -76,6 +78,10 @@ verdict-stays j p n = go (j .run .stage) refl n
 -- the tables of a machine, before record n
 abbrev going : Machine → ℕ → ℕ → Run
 going m n seed = record { kernel = encode m; place = 16 * n; seed = seed; stage = Going }
+
+-- and behind a verdict on record n
+abbrev over : Machine → ℕ → ℕ → Verdict → Run
+over m n seed v = record { kernel = encode m; place = 16 * n; seed = seed; stage = Over v }
 
 sixteenth : (n : ℕ) → 16 * n / 16 ≡ n
 sixteenth n = omega arith
@@ -123,14 +129,20 @@ unfolding ended bytes
 end-said m zero seed = refl
 end-said m (suc n) seed = let o : ltb (16 * suc n) 16 ≡ false = le-ltb (16 * suc n) 16 (omega arith) in rw (o, sixteenth (suc n), ne-eqb (suc n) 0 (λ e. omega arith))
 
+-- one machine beside one of two heads
+one-of : (k : Kernel) (t : Bool) (g h : Head) → run-of k (cond t g h) ≡ cond t (run-of k g) (run-of k h)
+one-of k true g h = refl
+one-of k false g h = refl
+
 -- a command record: the step on the tables is the rules'
 answered-is : (m : Machine) (s : Sound m) (n seed : ℕ) (r : Record) → 16 * n < 18446744073709551600
     → answered (going m n seed) r
-    ≡ cond (same (shown (answer-on r)) (shown (answer m (command-of r)))) (going (next m (command-of r)) (suc n) seed) (over (going m n seed) (difference n r (shown (answer m (command-of r)))))
+    ≡ cond (same (shown (answer-on r)) (shown (answer m (command-of r)))) (going (next m (command-of r)) (suc n) seed)
+    (over (next m (command-of r)) n seed (difference n r (shown (answer m (command-of r)))))
 unfolding answered compared
 answered-is m s n seed r o =
     let b : beyond (16 * n) ≡ 16 * suc n = rw (lt-ltb (16 * n) 18446744073709551600 o) (omega arith) in
-    rw (stepped-tie m s (command-of r), b, sixteenth n)
+    rw (stepped-tie m s (command-of r), b, sixteenth n) (one-of (encode (next m (command-of r))) (same (shown (answer-on r)) (shown (answer m (command-of r)))) _ _)
 
 end-read : (m : Machine) (n seed v : ℕ) (t : Bool) (l : List Read)
     → judged-from m n (seed-shown (numberOf (cond t (Refused 15) End)) v seed) (cond t (Refused 15) End ∷ l) ≡ record { seed = seed; verdict = cond t (Malformed (record { code = 15; number = n; place = 16 * n })) (Agrees (n - 1)) }
@@ -182,10 +194,10 @@ module _ (f : ℕ) (ih : Tied f) (m : Machine) (snd : Sound m) (n seed : ℕ) (f
         rw (at, again) (rw b at (ih m′ s′ (suc n) v (front ++ take 16 back) (drop 16 back) l (omega arith) (omega arith)))
 
     command-said : (r : Record) (a : Command) (t : Bool) (d : Verdict)
-        → ended (kept (bytes (record { run = cond t (going (next m a) (suc n) seed) (over (going m n seed) d); begun = [] }) (drop 16 back)))
+        → ended (kept (bytes (record { run = cond t (going (next m a) (suc n) seed) (over (next m a) n seed d); begun = [] }) (drop 16 back)))
         ≡ cond t (judged-from (next m a) (suc n) seed (answers f (front ++ back) (16 * n + 16))) (record { seed = seed; verdict = d })
     command-said r a true d = on (next m a) (next-sound m snd a) seed
-    command-said r a false d = over-said (over (going m n seed) d) (drop 16 back) d refl
+    command-said r a false d = over-said (over (next m a) n seed d) (drop 16 back) d refl
 
     found-said : (r : Record)
         → ended (kept (bytes (record { run = taken (going m n seed) (take 16 back) (Found r (16 * n + 16)); begun = [] }) (drop 16 back)))

@@ -6,7 +6,8 @@ use mathlib.Core.List.{List, [], _∷_, _++_}
 use lib.Dec.{eqb, ltb}
 use lib.ListN.{length, take, replicate}
 use Rattle.rules.specs.Machine.{fresh}
-use Rattle.kernel.specs.declared.Stepped.{Stepped}
+use Rattle.kernel.specs.declared.Kernel.{Kernel}
+use Rattle.kernel.specs.declared.command.Answer.{Answer}
 use Rattle.kernel.specs.View.{encode, pad}
 use Rattle.kernel.specs.Step.{steppedOf}
 use Rattle.record.specs.declared.Record.{Record}
@@ -19,9 +20,17 @@ use Rattle.judging.specs.declared.Verdict.the-variants.{Agrees, Refused 
 use Rattle.judging.specs.declared.Judgement.{Judgement}
 use Rattle.judging.specs.declared.Stage.{Stage}
 use Rattle.judging.specs.declared.Stage.the-variants.{Going, Over}
+use Rattle.judging.specs.declared.in_place.Head.{Head}
 use Rattle.judging.specs.declared.Run.{Run}
 use Rattle.judging.specs.declared.Judge.{Judge}
 use Rattle.judging.specs.Verdict.{command-of, answer-on, shown, same, difference, seed-shown}
+
+-- A run is a machine, and where a judge stands beside it.
+abbrev pub run-of : Kernel → Head → Run
+run-of k h = record { kernel = k; place = h .place; seed = h .seed; stage = h .stage }
+
+abbrev pub head-of : Run → Head
+head-of x = record { place = x .place; seed = x .seed; stage = x .stage }
 
 -- The place behind a record. (The last places of 64 bits are followed by themselves: no tape is so long.)
 abbrev pub beyond : ℕ → ℕ
@@ -31,10 +40,6 @@ beyond place = cond (ltb place 18446744073709551600) (place + 16) place
 abbrev pub refused-at : ℕ → ℕ → Verdict
 refused-at code place = Malformed (record { code = code; number = place / 16; place = place })
 
--- The verdict is there.
-abbrev pub over : Run → Verdict → Run
-over x v = record { kernel = x .kernel; place = x .place; seed = x .seed; stage = Over v }
-
 -- A record of that value is refused.
 abbrev pub refused : Run → ℕ → ℕ → Run
 refused x code value = record { kernel = x .kernel; place = x .place; seed = seed-shown code value (x .seed); stage = Over (refused-at code (x .place)) }
@@ -43,15 +48,19 @@ refused x code value = record { kernel = x .kernel; place = x .place; seed = see
 abbrev pub headed : Run → ℕ → Run
 headed x seed = record { kernel = x .kernel; place = beyond (x .place); seed = seed; stage = Going }
 
--- A command record beside the step of its command: the same answer, and the step's next state; or the first that differs.
-unfoldable pub compared : Run → Record → Stepped → Run
-compared x r s =
-    cond (same (shown (answer-on r)) (s .answer)) (record { kernel = s .next; place = beyond (x .place); seed = x .seed; stage = Going })
-    (over x (difference (x .place / 16) r (s .answer)))
+-- Where a judge stands behind a command record, beside the rules' answer to it: at the next place; or the record is the
+-- first that differs.
+unfoldable pub compared : Head → Record → Answer → Head
+compared h r a =
+    cond (same (shown (answer-on r)) a) (record { place = beyond (h .place); seed = h .seed; stage = Going })
+    (record { place = h .place; seed = h .seed; stage = Over (difference (h .place / 16) r a) })
 
--- A command record, by the step on the tables.
+-- A command record, by the step on the tables. The machine is the step's next one, also where the answers differ: behind
+-- a verdict nothing is looked at, and no judgement goes by that machine.
 unfoldable pub answered : Run → Record → Run
-answered x r = compared x r (steppedOf (x .kernel) (command-of r))
+answered x r =
+    let s = steppedOf (x .kernel) (command-of r) in
+    run-of (s .next) (compared (head-of x) r (s .answer))
 
 -- 16 bytes at the place, and what the reader answers of them. (Of 16 bytes it answers no End.)
 unfoldable pub taken : Run → List ℕ → Read → Run

@@ -9,15 +9,13 @@ ghost use lib.ListN.{length, take, drop, getD};
 ghost use Rattle.kernel.specs.View.{pad};
 ghost use Rattle.judging.specs.Verdict as verdict;
 ghost use Rattle.judging.specs.Pieces as pieces;
+
+mod in_place;
+
+use in_place::Head;
 pub use kernel::Answer;
 pub use kernel::Command;
 pub use kernel::Kernel;
-use kernel::TaskID;
-use record::Record;
-use record::choose;
-use record::fault;
-use record::is_marked;
-use record::record_of;
 
 // The first record that differs: its number (the header is 0), its command, the answer on the tape, and the rules'.
 pub struct Difference {
@@ -69,24 +67,7 @@ pub struct Judge {
     pub count: usize,
 }
 
-fn same(x: Answer, y: Answer) -> bool
-    ensures { λ r. ⌜ r ≡ verdict.same x y ⌝ }
-{
-    (x.code == y.code) & (x.running.0 == y.running.0) & (x.released.0 == y.released.0)
-}
-
-// The place behind a record. The last places of 64 bits are followed by themselves: no tape is so long.
-fn beyond(place: usize) -> usize
-    ensures { λ r. ⌜ r ≡ pieces.beyond place ⌝ }
-{
-    if place < 18446744073709551600 {
-        place + 16
-    } else {
-        place
-    }
-}
-
-fn refused_at(code: u8, place: usize) -> Verdict
+pub(crate) fn refused_at(code: u8, place: usize) -> Verdict
     ensures { λ r. ⌜ r ≡ pieces.refused-at code place ⌝ }
 {
     Verdict::Refused(Refusal {
@@ -96,119 +77,50 @@ fn refused_at(code: u8, place: usize) -> Verdict
     })
 }
 
-fn seed_shown(code: u8, value: u64, seed: u64) -> u64
-    ensures { λ r. ⌜ r ≡ verdict.seed-shown code value seed ⌝ }
-{
-    if code == 17 { value } else { seed }
-}
-
 impl Run {
-    fn over(self, v: Verdict) -> Run
-        ensures { λ r. ⌜ r ≡ pieces.over self v ⌝ }
+    // The records that lie whole in a piece, from its start on.
+    fn records(self, piece: &[u8]) -> Run
+        ensures { λ r. ⌜ r ≡ pieces.through self (now (piece .entry)) .run ⌝ }
     {
-        let kernel = self.kernel;
-        Run {
-            kernel,
-            place: self.place,
-            seed: self.seed,
-            stage: Stage::Over(v),
-        }
-    }
-
-    fn refused(self, code: u8, value: u64) -> Run
-        ensures { λ r. ⌜ r ≡ pieces.refused self code value ⌝ }
-    {
-        let kernel = self.kernel;
-        Run {
-            kernel,
-            place: self.place,
-            seed: seed_shown(code, value, self.seed),
-            stage: Stage::Over(refused_at(code, self.place)),
-        }
-    }
-
-    // The header: its seed is kept to be shown.
-    fn headed(self, seed: u64) -> Run
-        ensures { λ r. ⌜ r ≡ pieces.headed self seed ⌝ }
-    {
-        let kernel = self.kernel;
-        Run {
-            kernel,
-            place: beyond(self.place),
-            seed,
-            stage: Stage::Going,
-        }
-    }
-
-    // A command record. From Judge::fresh on the tables are always sound (proofs/Whole), so the step does not test them. Of tables that
-    // somebody made up the answer is steppedOf's, and no rule speaks of it.
-    fn answered(self, t: Record) -> Run
-        ensures { λ r. ⌜ r ≡ pieces.answered self t ⌝ }
-    {
-        let command = Command {
-            op: t.op,
-            a: t.a,
-            b: t.b,
-            value: t.value,
-        };
-        let tape = Answer {
-            code: t.code,
-            running: TaskID(t.running),
-            released: TaskID(t.released),
-        };
-        let kernel = self.kernel;
-        let stepped = kernel.step_trusting(command);
-        let rules = stepped.answer;
-        if !same(tape, rules) {
-            let number = self.place >> 4;
-            return self.over(Verdict::Differs(Difference {
-                number,
-                command,
-                tape,
-                rules,
-            }));
-        }
-        let next = stepped.next;
-        Run {
-            kernel: next,
-            place: beyond(self.place),
-            seed: self.seed,
-            stage: Stage::Going,
-        }
-    }
-
-    // The next 16 bytes. 15 and 17 come before any judgement of the record; behind a verdict nothing is looked at.
-    fn onward(self, p: &[u8]) -> Run
-        ensures { λ r. ⌜ r ≡ pieces.onward self (now (p .entry)) ⌝ }
-    {
+        let machine = self.kernel;
+        let base = machine.base;
+        let ready = machine.ready;
+        let delayed = machine.delayed;
+        let held = machine.held;
+        let way = machine.way;
+        let until = machine.until;
+        let ceiling = machine.ceiling;
+        let waiter = machine.waiter;
+        let clock = machine.clock;
+        let started = machine.started;
         let stage = self.stage;
-        let Stage::Going = stage else {
-            return self;
+        let head = Head {
+            place: self.place,
+            seed: self.seed,
+            stage,
         };
-        let place = self.place;
-        let t = record_of(p);
-        let code = choose(is_marked(p), fault(place, t), 15);
-        if code != 0 {
-            return self.refused(code, t.value);
-        }
-        if place == 0 {
-            return self.headed(t.value);
-        }
-        self.answered(t)
+        in_place::records(
+            base,
+            ready,
+            delayed,
+            held,
+            way,
+            until,
+            ceiling,
+            waiter,
+            clock,
+            started,
+            head,
+            piece,
+        )
     }
 
-    // The records that lie whole in a piece from a place on. What is left of the piece is held.
-    fn through(self, piece: &[u8], from: usize) -> Judge
-        requires { ⌜ from ≤ length (now piece) ⌝ }
-        ensures { λ r. ⌜ r ≡ pieces.through self (drop from (now (piece .entry))) ⌝ }
+    // The same, and what is left of the piece is held.
+    fn through(self, piece: &[u8]) -> Judge
+        ensures { λ r. ⌜ r ≡ pieces.through self (now (piece .entry)) ⌝ }
     {
-        let mut run = self;
-        let mut at = from;
-        while 16 <= piece.len() - at {
-            let end = at + 16;
-            run = run.onward(&piece[at..end]);
-            at = end;
-        }
+        let run = self.records(piece);
+        let at = 16 * (piece.len() >> 4);
         let held = together([0; 16], 0, &piece[at..]);
         Judge {
             run,
@@ -307,7 +219,9 @@ impl Judge {
                 count: n + piece.len(),
             };
         }
-        run.onward(&first).through(piece, wanted)
+        // The record that was begun is whole now, and is judged alone.
+        let whole = run.records(&first);
+        whole.through(&piece[wanted..])
     }
 
     // Whether a verdict is still to come. Behind it no piece changes anything (proofs/Whole, verdict-stays), so nothing more need be read.

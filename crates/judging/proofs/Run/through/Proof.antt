@@ -1,89 +1,46 @@
--- `Run::through` meets its contract: what is left of the piece, from the run so far, is the whole piece from the first. Assumes nothing.
-use native.Mathlib.Omega.{arith}
-use Prim.Native.Nat.{_-_, _≤_}
-use mathlib.Core.Path.{_≡_, _∙_}
-use lib.ListN.{length, drop}
-use Rattle.judging.specs.Pieces.{through}
-use Rattle.judging.proofs.Hearing.{through-turn, through-end}
+-- `Run::through` meets its contract: the run is behind the whole records, and what is left behind them is held (Hearing). Assumes nothing.
+use mathlib.Core.Path.{refl}
+use Rattle.judging.proofs.Hearing.{through-rest}
 use borrow.Author.Needs.{needs}
 use Rattle.judging.proofs.Run.through.Statement.{statement}
 use Rattle.judging.proofs.Run.through.Tie as tie
 
-abbrev Inv-loop : tie.InvT-loop
-Inv-loop piece from run₀ at₀ run at = (at ≤ length piece) × (through run (drop at piece) ≡ through run₀ (drop from piece))
+records-requires : tie.Need-records-requires
+records-requires c κs = search needs
 
-abbrev μ-loop : tie.MeasureT-loop
-μ-loop piece from run₀ at₀ run at = length piece - at
+mul-at : tie.Need-mul-at
+mul-at c = search needs
 
-loop-holds : tie.Need-loop-holds Inv-loop μ-loop
-loop-holds c = search needs
-
-sub-loop : tie.Need-sub-loop Inv-loop μ-loop
-sub-loop c = search needs
-
-add-end : tie.Need-add-end Inv-loop μ-loop
-add-end c = search needs
-
-sub-onward : tie.Need-sub-onward Inv-loop μ-loop
-sub-onward c = search needs
-
-part-onward-start : tie.Need-part-onward-start Inv-loop μ-loop
-part-onward-start c = search needs
-
-part-onward-end : tie.Need-part-onward-end Inv-loop μ-loop
-part-onward-end c = search needs
-
-onward-requires : tie.Need-onward-requires Inv-loop μ-loop
-onward-requires c κs = search needs
-
-loop-less : tie.Need-loop-less Inv-loop μ-loop
-loop-less c = search needs
-
-loop-again : tie.Need-loop-again Inv-loop μ-loop
-loop-again c =
-    let l = c .before .before .before .loop in
-    let a = c .before .before .before .before .before .args in
-    (omega arith, through-turn (l .run) (c .onward .result) (a .piece .now) (l .at) (c .onward .ensures) (omega arith) ∙ l .inv .1)
-
-sub-together : tie.Need-sub-together Inv-loop μ-loop
+sub-together : tie.Need-sub-together
 sub-together c = search needs
 
-part-together-start : tie.Need-part-together-start Inv-loop μ-loop
+part-together-start : tie.Need-part-together-start
 part-together-start c = search needs
 
-part-together-end : tie.Need-part-together-end Inv-loop μ-loop
+part-together-end : tie.Need-part-together-end
 part-together-end c = search needs
 
-together-requires : tie.Need-together-requires Inv-loop μ-loop
+together-requires : tie.Need-together-requires
 together-requires c κs = search needs
 
-sub-t19 : tie.Need-sub-t19 Inv-loop μ-loop
-sub-t19 c = search needs
+sub-t6 : tie.Need-sub-t6
+sub-t6 c = search needs
 
-returns : tie.Need-returns Inv-loop μ-loop
+returns : tie.Need-returns
 returns c =
-    let l = c .before .before .before .loop in
-    let a = c .before .before .before .before .before .args in
-    through-end (l .run) (a .piece .now) (l .at) (c .together .result) (c .together .ensures) (omega arith) ∙ l .inv .1
+    let a = c .before .before .before .before .args in
+    let r = c .before .before .records in
+    through-rest (a .self) (r .result) (a .piece .now) _ (c .together .result) (r .ensures) refl (c .together .ensures)
 
 pub through-spec : {M : Type 1} → statement M
 through-spec =
     tie.close
     (tie.spec
-    Inv-loop
-    μ-loop
-    loop-holds
-    sub-loop
-    add-end
-    sub-onward
-    part-onward-start
-    part-onward-end
-    onward-requires
-    loop-less
-    loop-again
+    records-requires
+    mul-at
     sub-together
     part-together-start
     part-together-end
     together-requires
-    sub-t19
+    sub-t6
     returns)

@@ -1,7 +1,7 @@
 -- `seed_shown` meets its contract, by its test. Assumes nothing.
 use borrow.Author.Tests.{eq-eqb, ne-eqb}
-use Rattle.judging.proofs.seed_shown.Statement.{statement}
-use Rattle.judging.proofs.seed_shown.Tie as tie
+use Rattle.judging.proofs.in_place.seed_shown.Statement.{statement}
+use Rattle.judging.proofs.in_place.seed_shown.Tie as tie
 
 returns : tie.Need-returns
 returns c = rw (eq-eqb (c .before .args .code) _ (c .if1 .taken))

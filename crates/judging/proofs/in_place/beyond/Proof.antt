@@ -1,8 +1,8 @@
 -- `beyond` meets its contract, by its test. Assumes nothing.
 use borrow.Author.Tests.{lt-ltb, le-ltb}
 use borrow.Author.Needs.{needs}
-use Rattle.judging.proofs.beyond.Statement.{statement}
-use Rattle.judging.proofs.beyond.Tie as tie
+use Rattle.judging.proofs.in_place.beyond.Statement.{statement}
+use Rattle.judging.proofs.in_place.beyond.Tie as tie
 
 add-result : tie.Need-add-result
 add-result c = search needs
