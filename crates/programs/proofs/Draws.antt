@@ -12,8 +12,7 @@ use Rattle.flow.specs.declared.Went.{Went}
 use Rattle.flow.specs.Flow.{Took, Wrote}
 use Rattle.rules.proofs.Tests.{both-true}
 use Rattle.session.specs.declared.draw.Draw.{Draw}
-use Rattle.session.specs.declared.draw.Heard.{Heard}
-use Rattle.session.specs.Draw.{some-behind, some-text, drawn-next, not-heard, text-of}
+use Rattle.session.specs.Draw.{Heard, some-behind, some-text, drawn-next, not-heard, text-of}
 use Rattle.programs.specs.Loops.{Put, Concluded, draw-lot}
 use Rattle.programs.proofs.Turns.{took-text}
 
