@@ -5,7 +5,7 @@
 ghost use mathlib.Core.Path.{_≡_};
 ghost use mathlib.Core.List.{_++_};
 ghost use Prim.Native.Nat.{_≤_, min};
-ghost use lib.ListN.{length, take, drop, getD};
+ghost use lib.ListN.{take, getD};
 ghost use Rattle.kernel.specs.View.{pad};
 ghost use Rattle.judging.specs.Verdict as verdict;
 ghost use Rattle.judging.specs.Pieces as pieces;
