@@ -1,5 +1,5 @@
 // A command: its kind, what Range asks of its operands, and the number of the first check that refuses it. What the checks look at is lent to be
-// read, and every command gets a number, whatever the tables hold.
+// read, or goes by value, and every command gets a number, whatever the tables hold.
 ghost use mathlib.Core.Path.{_≡_};
 ghost use Rattle.rules.specs.Kinds.{kind};
 ghost use mathlib.Core.Bool.{cond};

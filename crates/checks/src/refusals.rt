@@ -12,20 +12,21 @@ use line::POId;
 use line::TaskID;
 use line::choose;
 
-// the base of the task that it names
+// create: `named` is the base of the task that it names
 fn creating(started: bool, a: u8, named: u8) -> u8
     ensures { λ r. ⌜ r ≡ cond started 3 (cond (eqb a 0 || not (eqb named 0)) 5 0) ⌝ }
 {
     choose(started, 3, choose((a == 0) | !(named == 0), 5, 0))
 }
 
+// object: `ceiling` is that of the object that it names
 fn declaring(started: bool, ceiling: u8) -> u8
     ensures { λ r. ⌜ r ≡ cond started 3 (cond (not (eqb ceiling 0)) 5 0) ⌝ }
 {
     choose(started, 3, choose(!(ceiling == 0), 5, 0))
 }
 
-// what the runner holds
+// delay: `held` is what the runner holds
 fn delaying(started: bool, runner: u8, held: u8) -> u8
     ensures { λ r. ⌜ r ≡ cond (not started) 2 (cond (eqb runner 0) 7 (cond (not (eqb held 0)) 8 0)) ⌝ }
 {
@@ -90,7 +91,7 @@ fn passes_end(clock: u64, ticks: u64) -> bool
     18446744073709551615 - clock < ticks
 }
 
-// The number of the first check of that kind that holds; 0 for none.
+// The number of the first check of that kind that holds; 0 for none. (The caller passes the command's own kind: of another one the number is of no rule.)
 pub fn refusal(
     base: &[u8; 32],
     ready: &[u8; 32],

@@ -1,5 +1,5 @@
 // What each op does to the tables, in place: a function is lent the tables that it reads or changes, and no other. It answers the task that it releases, 0 for nobody.
-// (Which op does what, and when it is refused: crate kernel.) Each `&` has its own lifetime: with one for several a caller could not lend what it was lent itself.
+// (Which kind of command does what: crate kernel. When it is refused: crate checks.) Each `&` has its own lifetime: with one for several a caller could not lend what it was lent itself.
 ghost use mathlib.Core.Path.{_≡_};
 ghost use mathlib.Core.Bool.{true, cond};
 ghost use Prim.Native.Nat.{_+_, _^_};

@@ -1,5 +1,5 @@
 -- What an accepted command has shown: none of the checks held, and so its row of the op table is allowed; and which ops release.
--- The one place where the theorems go through the ops one by one; all others go by the row. Assumes nothing.
+-- The one place where the theorems go through the kinds one by one; all others go by the row. Assumes nothing.
 use Prim.Native.Nat.{ℕ, zero, suc, _+_, _≤_, _<_, _^_}
 use native.Mathlib.Omega.{arith}
 use mathlib.Core.Path.{_≡_, refl, sym, ap, _∙_, subst}
@@ -181,7 +181,7 @@ module _ (m : Machine) (s : Sound m) where
   pub allowed : (c : Command) → refusal m c ≡ 0 → Allowed m (effect m c)
   allowed c ok = by-kind c (kind c) (check-passed m c (kind c) refl ok)
 
--- Which kinds may release: a Wake; the end of a body with a barrier, and that nobody from the delay line; and no other.
+-- Which kinds may release: a Wake, and the end of a body with a barrier, which takes nobody from the delay line. No other kind does.
 abbrev pub rel-of : Effect → Rel
 rel-of nothing = none
 rel-of (creates t p) = none

@@ -1,5 +1,5 @@
 -- The numbers of refusal 2 to 13: a check for each, under its sentence; and for each kind of command its checks, in their order.
--- 1, Shape, comes before them all, and is tested where a state comes in: these are of a sound state. What stands in [ ] is said by the kinds' rows,
+-- 1, Shape, comes before them all, and is tested where a state comes in: these go by what a state shows, sound or not. What stands in [ ] is said by the kinds' rows,
 -- or tested elsewhere.
 use Prim.Native.Nat.{ℕ, _+_, _^_}
 use mathlib.Core.Bool.{Bool, true, false, cond, not, _&&_}
