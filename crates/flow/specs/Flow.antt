@@ -20,9 +20,11 @@ status-of kind = cond (leb 2 kind) 3 0
 
 -- A call brought so many bytes, at the front of a buffer: at least one where the work goes on, else none.
 abbrev pub Brought : List ℕ → ℕ → ℕ → Type 0
-Brought piece count kind = (count ≤ length piece) × (count ≡ length (take count piece)) × (((kind ≡ 0) × (1 ≤ count)) ⊎ ((count ≡ 0) × (1 ≤ kind)))
+Brought piece count kind =
+    (count ≤ length piece) × (count ≡ length (take count piece)) × (((kind ≡ 0) × (1 ≤ count)) ⊎ ((count ≡ 0) × (1 ≤ kind)))
 
--- A read, by which w became r: what it brought stands in the buffer, and the work goes on, the input has ended, or the read failed. It takes no byte.
+-- A read, by which w became r: what it brought stands in the buffer; the work goes on, the input has ended, or the read
+-- failed. How many bytes were taken is kept.
 abbrev pub Came : Went → Went → List ℕ → Type 0
 Came w r piece = Brought piece (r .count) (r .kind) × (r .kind ≤ 2) × (r .sent ≡ w .sent)
 
@@ -30,6 +32,7 @@ Came w r piece = Brought piece (r .count) (r .kind) × (r .kind ≤ 2) × (r .se
 abbrev pub Took : ℕ → ℕ → Went → Went → Type 0
 Took n kind w r = ((r .kind ≡ kind) × (r .sent ≡ w .sent + n)) ⊎ (r .kind ≡ 3)
 
--- A write of so many bytes, by which w became r: all were taken, and the work stands as it stood; or it failed. What the last read brought is kept.
+-- A write of so many bytes, by which w became r: all were taken, and the work stands as it stood; or it failed. What the last
+-- read brought is kept.
 abbrev pub Wrote : ℕ → Went → Went → Type 0
 Wrote n w r = (r .count ≡ w .count) × Took n (w .kind) w r

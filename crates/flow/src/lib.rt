@@ -1,13 +1,15 @@
-// Reading and writing, for every program: what came of it, and how it is told where it failed. Nothing else reads an input or writes an output.
+// Reading and writing, for every program: what came of it, and how it is told where it failed. Nothing else reads an input or
+// writes an output.
 ghost use Prim.Native.Nat.{_≤_};
 ghost use mathlib.Core.Path.{_≡_};
 ghost use lib.Dec.{eqb, leb};
 ghost use lib.ListN.{length};
 ghost use Rattle.flow.specs.Flow as flow;
 
-// How the work stands (kind): it goes on (0), a read gave nothing (1), a read failed (2), a write failed (3); how many bytes the last read brought;
-// and how many bytes were taken by all writes so far. All three are private: only this crate gives them. So no program can say that its input has
-// ended where no read gave nothing, that a read brought less than it did, or that a text was written which was not.
+// How the work stands (kind): it goes on (0), a read gave nothing (1), a read failed (2), a write failed (3); how many bytes
+// the last read brought; and how many bytes all writes took so far. All three are private: only this crate gives them. So no
+// program can say that its input has ended where no read gave nothing, that a read brought less than it did, or that a text
+// was written which was not.
 pub struct Went {
     kind: u8,
     count: usize,
@@ -84,8 +86,8 @@ fn read_once(fd: i32, piece: &mut [u8]) -> Call
     moved_none(2)
 }
 
-// One read into piece. A call that a signal ended is made again; nothing says that signals end, so the loop counts down from a number that no run
-// uses up.
+// One read into piece. A call that a signal ended is made again. Nothing says that signals end, so the loop counts down from a
+// number that no run uses up.
 pub fn read_piece(w: Went, fd: i32, piece: &mut [u8]) -> Went
     ensures { λ r. ⌜ flow.Came w r (now (piece .exit)) ⌝ }
 {
@@ -140,8 +142,8 @@ fn not_written(w: Went) -> Went
     }
 }
 
-// All of out, in as many writes as it takes: it is all taken, or the write has failed. What the last read brought is kept. Where no number holds the
-// total that is a failure, too; no run gets there.
+// All of out, in as many writes as it takes: it is all taken, or the write has failed. What the last read brought is kept.
+// Where no number holds the total that is a failure, too; no run gets there.
 pub fn write_whole(w: Went, out: &[u8]) -> Went
     ensures { λ r. ⌜ flow.Wrote (length (now (out .entry))) w r ⌝ }
 {

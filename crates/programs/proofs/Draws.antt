@@ -123,7 +123,8 @@ lot-drawn d e f was went next at out r on s p w =
         inl (j ∙ k, omega (arith, a, b, l, text-more (r .draws) draw-lot d))
 
 -- the end: a write failed, or no draw is to be made any more
-pub out-of-draws : (d e : Draw) (was went : Went) → Drawing d e was went → (2 ≤ went .kind) ⊎ ((went .kind ≤ 1) × Drawn-out e) → Concluded (some-text (d .left) d) was went
+pub out-of-draws : (d e : Draw) (was went : Went) → Drawing d e was went → (2 ≤ went .kind) ⊎ ((went .kind ≤ 1) × Drawn-out e) → Concluded (some-text
+    (d .left) d) was went
 out-of-draws d e was went r why = go (leb 2 (was .kind)) refl
   where
     last : was .kind ≤ 1 → Took (length (some-text (r .draws) d)) (was .kind) was went → (2 ≤ went .kind) ⊎ ((went .kind ≤ 1) × Drawn-out e)

@@ -1,4 +1,5 @@
--- Loops over pieces of input, for every program: what holds at each turn, how a turn keeps it, what it says at the end, and what a whole run says. Assumes nothing.
+-- Loops over pieces of input, for every program: what holds at each turn, how a turn keeps it, what it says at the end, and what a whole run says. Assumes
+-- nothing.
 use Prim.Native.Nat.{ℕ, zero, suc, _+_, _≤_}
 use native.Mathlib.Omega.{arith}
 use mathlib.Core.Bool.{Bool, true, false, not, cond, false≢true}
@@ -10,7 +11,7 @@ use lib.Dec.{T, eqb, leb}
 use lib.ListN.{length, take, length-append}
 use Rattle.flow.specs.declared.Went.{Went}
 use Rattle.flow.specs.Flow.{nothing-yet, status-of, Came, Took, Wrote}
-use Rattle.programs.specs.Loops.{Put, behind, texts, None-empty, all-turns, Fed, Turned, Over, Looped, Concluded, Whole, Done-or-failed}
+use Rattle.programs.specs.Loops.{Put, After, Text, behind, texts, None-empty, all-turns, Fed, Turned, Over, Looped, Concluded, Whole, Done-or-failed}
 
 -- ---- tests
 
@@ -46,7 +47,8 @@ some-came was came n buffer h z m =
     (λ (x : (came .count ≡ 0) × (1 ≤ came .kind)). absurd (omega (arith, x .1, z))) (h .0 .2)
 
 -- a write of what was put: as much as the text has
-pub took-text : (text out : List ℕ) (at kind : ℕ) (was went : Went) → Put at out text → Took (length (take at out)) kind was went → Took (length text) kind was went
+pub took-text : (text out : List ℕ) (at kind : ℕ) (was went : Went) → Put at out text → Took (length (take at out)) kind was went → Took
+    (length text) kind was went
 took-text text out at kind was went p w = rw (ap length (p .1)) at w
 
 -- the same from where the work stood before the read
@@ -55,8 +57,9 @@ took-since n kind was came went e k (inl (f, s)) = inl (f ∙ k, s ∙ ap (λ (x
 took-since n kind was came went e k (inr f) = inr f
 
 -- a turn that has read something, has fed all of it, and has written what is printed for it
-pub turned : {S : Type 0} (after : S → List ℕ → S) (text : S → List ℕ → List ℕ) (s t : S) (was came went : Went) (n at : ℕ) (buffer out : List ℕ)
-    → Came was came buffer → came .kind ≡ 0 → n ≡ came .count → t ≡ after s (take n buffer) → Put at out (text s (take n buffer)) → Wrote (length (take at out)) came went
+pub turned : {S : Type 0} (after : After S) (text : Text S) (s t : S) (was came went : Went) (n at : ℕ) (buffer out : List ℕ)
+    → Came was came buffer → came .kind ≡ 0 → n ≡ came .count → t ≡ after s (take n buffer) → Put at out (text s (take n buffer)) → Wrote (length
+    (take at out)) came went
     → Turned after text s t was went buffer out
 turned after text s t was came went n at buffer out h z m f p w =
     let x = text s (take n buffer) in
@@ -65,18 +68,18 @@ turned after text s t was came went n at buffer out h z m f p w =
     inl (subst (λ (k : ℕ). Fed after text s t was went (take k buffer) out) (m ∙ sym (w .0)) (some-came was came n buffer h z m, f, front, took))
 
 -- a turn that has read nothing
-pub unturned : {S : Type 0} (after : S → List ℕ → S) (text : S → List ℕ → List ℕ) (s : S) (was came : Went) (buffer out : List ℕ) → Came was came buffer
+pub unturned : {S : Type 0} (after : After S) (text : Text S) (s : S) (was came : Went) (buffer out : List ℕ) → Came was came buffer
     → 1 ≤ came .kind → Turned after text s s was came buffer out
 unturned after text s was came buffer out h o = inr (refl, o, h .1, h .2)
 
 -- ---- one piece more, behind the others
 
-behind-one : {S : Type 0} (after : S → List ℕ → S) (s : S) (ps : List (List ℕ)) (p : List ℕ) → behind after s (ps ++ (p ∷ [])) ≡ after (behind after s ps) p
+behind-one : {S : Type 0} (after : After S) (s : S) (ps : List (List ℕ)) (p : List ℕ) → behind after s (ps ++ (p ∷ [])) ≡ after (behind after s ps) p
 unfolding behind
 behind-one after s [] p = refl
 behind-one after s (q ∷ ps) p = behind-one after (after s q) ps p
 
-texts-one : {S : Type 0} (after : S → List ℕ → S) (text : S → List ℕ → List ℕ) (s : S) (ps : List (List ℕ)) (p : List ℕ)
+texts-one : {S : Type 0} (after : After S) (text : Text S) (s : S) (ps : List (List ℕ)) (p : List ℕ)
     → length (texts after text s (ps ++ (p ∷ []))) ≡ length (texts after text s ps) + length (text (behind after s ps) p)
 unfolding behind texts
 texts-one after text s [] p = simp length-append (omega arith)
@@ -95,7 +98,7 @@ one-longer (q ∷ ps) p = ap suc (one-longer ps p)
 -- ---- the loop
 
 -- So far: the state stands behind as many pieces as there were turns, unless the work stops; and what is printed for them was taken.
-pub record Running {S : Type 0} (after : S → List ℕ → S) (text : S → List ℕ → List ℕ) (s t : S) (was went : Went) (turns : ℕ) : Type 0 where
+pub record Running {S : Type 0} (after : After S) (text : Text S) (s t : S) (was went : Went) (turns : ℕ) : Type 0 where
   pub pieces : List (List ℕ)
   pub none-empty : None-empty pieces
   pub state : t ≡ behind after s pieces
@@ -103,13 +106,13 @@ pub record Running {S : Type 0} (after : S → List ℕ → S) (text : S → Lis
   pub counted : (1 ≤ went .kind) ⊎ (length pieces ≡ turns)
   pub stopped : 1 ≤ was .kind → (pieces ≡ []) × (went ≡ was)
 
-pub at-start : {S : Type 0} (after : S → List ℕ → S) (text : S → List ℕ → List ℕ) (s t : S) (was went : Went) → t ≡ s → went ≡ was → Running after text s t was went 0
+pub at-start : {S : Type 0} (after : After S) (text : Text S) (s t : S) (was went : Went) → t ≡ s → went ≡ was → Running after text s t was went 0
 unfolding behind texts
 at-start after text s t was went e f =
     let n = ap (λ (w : Went). w .sent) f in
     record { pieces = []; none-empty = tt; state = e; taken = inr (omega (arith, n)); counted = inr refl; stopped = λ _. (refl, f) }
 
-module _ {S : Type 0} (after : S → List ℕ → S) (text : S → List ℕ → List ℕ) (s t u : S) (was went now : Went) (turns : ℕ) (r : Running after text s t was went turns)
+module _ {S : Type 0} (after : After S) (text : Text S) (s t u : S) (was went now : Went) (turns : ℕ) (r : Running after text s t was went turns)
     (on : went .kind ≡ 0) where
   never : {A : Type 0} → 1 ≤ was .kind → A
   never o = let e = ap (λ (w : Went). w .kind) (r .stopped o .1) in absurd (omega (arith, e, on, o))
@@ -149,7 +152,7 @@ module _ {S : Type 0} (after : S → List ℕ → S) (text : S → List ℕ → 
         stopped = never;
       }
 
-pub at-end : {S : Type 0} (after : S → List ℕ → S) (text : S → List ℕ → List ℕ) (wants : S → Bool) (s t : S) (was went : Went) (turns : ℕ)
+pub at-end : {S : Type 0} (after : After S) (text : Text S) (wants : S → Bool) (s t : S) (was went : Went) (turns : ℕ)
     → Running after text s t was went turns → (1 ≤ went .kind) ⊎ T (not (wants t)) ⊎ (all-turns ≤ turns) → Looped after text wants s t was went
 at-end after text wants s t was went turns r why =
     record { pieces = r .pieces; none-empty = r .none-empty; state = r .state; taken = r .taken; over = over (r .counted) why; stopped = r .stopped }
@@ -182,10 +185,11 @@ then-more first more was mid went o (inr k) (inr (f, _)) = absurd (omega (arith,
 pub headed : (text out : List ℕ) (at : ℕ) (first went : Went) → first ≡ nothing-yet → Put at out text → Wrote (length (take at out)) first went
     → Took (length text) 0 nothing-yet went
 headed text out at first went e p w =
-    took-since (length text) 0 nothing-yet first went (ap (λ (x : Went). x .sent) e) (ap (λ (x : Went). x .kind) e) (took-text text out at (first .kind) first went p (w .1))
+    took-since (length text) 0 nothing-yet first went (ap (λ (x : Went). x .sent) e) (ap (λ (x : Went). x .kind) e) (took-text text out at
+    (first .kind) first went p (w .1))
 
 -- where `all` gives all that is printed of pieces, piece by piece: as much as the pieces' texts, and what it gives at their end
-counted : {S : Type 0} (after : S → List ℕ → S) (text : S → List ℕ → List ℕ) (all : S → List (List ℕ) → List ℕ)
+counted : {S : Type 0} (after : After S) (text : Text S) (all : S → List (List ℕ) → List ℕ)
     → ((x : S) (p : List ℕ) (ps : List (List ℕ)) → all x (p ∷ ps) ≡ text x p ++ all (after x p) ps) → (s : S) (ps : List (List ℕ))
     → length (all s ps) ≡ length (texts after text s ps) + length (all (behind after s ps) [])
 unfolding behind texts
@@ -193,7 +197,7 @@ counted after text all more s [] = omega arith
 counted after text all more s (p ∷ ps) = let e = counted after text all more (after s p) ps in rw (more s p ps) (simp length-append (omega (arith, e)))
 
 -- a whole run: the header, the loop, the end
-module _ {S : Type 0} (after : S → List ℕ → S) (text : S → List ℕ → List ℕ) (wants : S → Bool) (s t : S) (header last : List ℕ) (headed read went : Went)
+module _ {S : Type 0} (after : After S) (text : Text S) (wants : S → Bool) (s t : S) (header last : List ℕ) (headed read went : Went)
     (h : Took (length header) 0 nothing-yet headed) (l : Looped after text wants s t headed read) (c : Concluded last read went) where
   abbrev Parts : Type 0
   Parts =
@@ -225,7 +229,8 @@ module _ {S : Type 0} (after : S → List ℕ → S) (text : S → List ℕ → 
       go (inr (o, inr k)) = inl (omega (arith, k))
       go (inr (o, inl (k, e))) = inr (omega (arith, e, all-sent o), over-still k)
 
-  pub whole : (all : S → List (List ℕ) → List ℕ) → ((x : S) (p : List ℕ) (ps : List (List ℕ)) → all x (p ∷ ps) ≡ text x p ++ all (after x p) ps) → all t [] ≡ last
+  pub whole : (all : S → List (List ℕ) → List ℕ) → ((x : S) (p : List ℕ) (ps : List (List ℕ)) → all x (p ∷ ps) ≡ text x p ++ all (after x p) ps)
+      → all t [] ≡ last
       → Whole after wants s (λ ps. header ++ all s ps) went
   whole all more end = go in-all
     where

@@ -1,8 +1,10 @@
--- What the programs do, as far as a contract can say it: in which state they are behind the pieces that were read, how many bytes were taken by their writes, and
--- why they end. A `Went` is of crate flow, and only its reads and writes give one: so how many bytes were taken is no claim of a program.
+-- What the programs do, as far as a contract can say it: in which state they are behind the pieces that were read, how many
+-- bytes their writes took, and why they end. Only the reads and writes of crate flow give a `Went`, so how many bytes were
+-- taken is no claim of a program.
 --
--- Wrong programs that meet all this, and that only runs refuse (host/io.py, the stored cases): one that reads twice and drops what the first read brought; one that
--- takes a failed read for the end of the input; one that writes other bytes, as many as the text has.
+-- These wrong programs meet all of it, and only runs refuse them (host/io.py, the stored cases). One reads twice and drops
+-- what the first read brought. One takes a failed read for the end of the input. One writes other bytes, as many as the text
+-- has. One answers another status than its work's: `run` is one line.
 use Prim.Native.Nat.{ℕ, suc, _+_, _*_, _≤_}
 use mathlib.Core.Bool.{Bool, not, _&&_}
 use mathlib.Core.Path.{_≡_}
@@ -26,13 +28,20 @@ Put n out text = (n ≡ length text) × (take n out ≡ text)
 
 -- ---- pieces of input, one after another
 
--- the state behind them, where `after` gives the one behind a piece
-unfoldable pub behind : {S : Type 0} → (S → List ℕ → S) → S → List (List ℕ) → S
+-- The state behind a piece, and what is printed for a piece, in the state before it.
+abbrev pub After : Type 0 → Type 0
+After S = S → List ℕ → S
+
+abbrev pub Text : Type 0 → Type 0
+Text S = S → List ℕ → List ℕ
+
+-- The state behind pieces.
+unfoldable pub behind : {S : Type 0} → After S → S → List (List ℕ) → S
 behind after s [] = s
 behind after s (p ∷ ps) = behind after (after s p) ps
 
--- what is printed for them, where `text` gives what is printed for a piece
-unfoldable pub texts : {S : Type 0} → (S → List ℕ → S) → (S → List ℕ → List ℕ) → S → List (List ℕ) → List ℕ
+-- What is printed for them.
+unfoldable pub texts : {S : Type 0} → After S → Text S → S → List (List ℕ) → List ℕ
 texts after text s [] = []
 texts after text s (p ∷ ps) = text s p ++ texts after text (after s p) ps
 
@@ -40,8 +49,8 @@ abbrev pub None-empty : List (List ℕ) → Type 0
 None-empty [] = Unit {0}
 None-empty (p ∷ ps) = (1 ≤ length p) × None-empty ps
 
--- judge prints nothing for a piece
-abbrev pub silent : Judge → List ℕ → List ℕ
+-- Judge prints nothing for a piece.
+abbrev pub silent : Text Judge
 silent j p = []
 
 -- ---- sizes
@@ -50,13 +59,14 @@ silent j p = []
 abbrev pub all-turns : ℕ
 all-turns = 18446744073709551615
 
--- What walk reads at a time, and the room that it lends: a line for each byte of a piece, and one more. The same for draw; and how many draws it makes at a time.
+-- What walk reads at a time, and the room that it lends: a line for each byte of a piece, and one more.
 abbrev pub walk-piece : ℕ
 walk-piece = 640
 
 abbrev pub walk-lent : ℕ
 walk-lent = walk-room * suc walk-piece
 
+-- The same for draw; and how many draws it makes at a time.
 abbrev pub draw-piece : ℕ
 draw-piece = 384
 
@@ -66,26 +76,29 @@ draw-lent = draw-room * suc draw-piece
 abbrev pub draw-lot : ℕ
 draw-lot = 384
 
--- ---- loops
+-- ---- loops. A loop, or a turn of it, goes from the state s to t, and by it `was` became `went`.
 
--- A turn that has read the piece p, from the state s to t: t stands behind all of p, what is printed for p stands at the front of out, and all of that was
--- taken, or the write failed.
-abbrev pub Fed : {S : Type 0} → (S → List ℕ → S) → (S → List ℕ → List ℕ) → S → S → Went → Went → List ℕ → List ℕ → Type 0
+-- A turn that has read the piece p: t stands behind all of p, what is printed for p stands at the front of out, and all of
+-- that was taken, or the write failed.
+abbrev pub Fed : {S : Type 0} → After S → Text S → S → S → Went → Went → List ℕ → List ℕ → Type 0
 Fed after text s t was went p out =
     (1 ≤ length p) × (t ≡ after s p) × (take (length (text s p)) out ≡ text s p) × Took (length (text s p)) 0 was went
 
--- A turn of a loop, by which was became went: it has read the bytes at the front of the buffer; or it has read none, because the input has ended or the read
--- failed, and t is s.
-abbrev pub Turned : {S : Type 0} → (S → List ℕ → S) → (S → List ℕ → List ℕ) → S → S → Went → Went → List ℕ → List ℕ → Type 0
+-- A turn that has read nothing, because the input has ended or the read failed: t is s.
+abbrev pub Unfed : {S : Type 0} → S → S → Went → Went → Type 0
+Unfed s t was went = (t ≡ s) × (1 ≤ went .kind) × (went .kind ≤ 2) × (went .sent ≡ was .sent)
+
+-- A turn: it has read the bytes at the front of the buffer, or nothing.
+abbrev pub Turned : {S : Type 0} → After S → Text S → S → S → Went → Went → List ℕ → List ℕ → Type 0
 Turned after text s t was went buffer out =
-    Fed after text s t was went (take (went .count) buffer) out ⊎ ((t ≡ s) × (1 ≤ went .kind) × (went .kind ≤ 2) × (went .sent ≡ was .sent))
+    Fed after text s t was went (take (went .count) buffer) out ⊎ Unfed s t was went
 
 -- Why a loop reads no more: a read gave nothing, a read or a write failed, nothing more is wanted, or all turns are used up.
 abbrev pub Over : {S : Type 0} → (S → Bool) → S → List (List ℕ) → Went → Type 0
 Over wants t ps went = (1 ≤ went .kind) ⊎ T (not (wants t)) ⊎ (all-turns ≤ length ps)
 
--- A whole loop, from the state s to t, by which was became went. (That the pieces are those that were read no contract can say.)
-pub record Looped {S : Type 0} (after : S → List ℕ → S) (text : S → List ℕ → List ℕ) (wants : S → Bool) (s t : S) (was went : Went) : Type 0 where
+-- A whole loop. (That the pieces are those that were read no contract can say.)
+pub record Looped {S : Type 0} (after : After S) (text : Text S) (wants : S → Bool) (s t : S) (was went : Went) : Type 0 where
   pub pieces : List (List ℕ)
   pub none-empty : None-empty pieces
   pub state : t ≡ behind after s pieces
@@ -95,12 +108,14 @@ pub record Looped {S : Type 0} (after : S → List ℕ → S) (text : S → List
   -- where the work had stopped before the loop, nothing is read, and it stands as it stood
   pub stopped : 1 ≤ was .kind → (pieces ≡ []) × (went ≡ was)
 
--- Behind a loop, by which was became went: where a read or a write had failed, nothing more is written; else all of a last text was taken, or the write failed.
+-- Behind a loop: where a read or a write had failed, nothing more is written. Else all of a last text was taken, or the write
+-- failed.
 abbrev pub Concluded : List ℕ → Went → Went → Type 0
 Concluded text was went = ((2 ≤ was .kind) × (went ≡ was)) ⊎ ((was .kind ≤ 1) × Took (length text) (was .kind) was went)
 
--- A whole run from the state s: a read or a write failed; or there are pieces, and as many bytes were taken as all has that is printed of them, from the header on.
-abbrev pub Whole : {S : Type 0} → (S → List ℕ → S) → (S → Bool) → S → (List (List ℕ) → List ℕ) → Went → Type 0
+-- A whole run from the state s: a read or a write failed; or there are pieces, none of them empty, and as many bytes were
+-- taken as all that is printed of them has, from the header on.
+abbrev pub Whole : {S : Type 0} → After S → (S → Bool) → S → (List (List ℕ) → List ℕ) → Went → Type 0
 Whole after wants s all went =
     (2 ≤ went .kind)
     ⊎ ((ps : List (List ℕ)) × None-empty ps × (went .sent ≡ length (all ps)) × Over wants (behind after s ps) ps went)
@@ -115,7 +130,8 @@ draw-wants r = ltb (r .draw .stage) 2 && not (eqb (r .draw .stage) 0 && leb 129 
 abbrev pub judge-wants : Judge → Bool
 judge-wants j = to-come (j .run .stage)
 
--- What judge knows at its end: the judgement of some pieces. They are those of the whole run; of them all that is printed is the report.
+-- A whole run of judge: j is the judgement of pieces, none of them empty; and a read or a write failed, or as many bytes were
+-- taken as the report of j has.
 abbrev pub Judged : Judgement → Went → Type 0
 Judged j went =
     (ps : List (List ℕ)) × None-empty ps × (j ≡ judged-in at-first ps)
@@ -123,10 +139,10 @@ Judged j went =
 
 -- ---- what a program answers
 
--- walk and draw: 0, or 3 where a read or a write failed
+-- Walk and draw: 0, or 3 where a read or a write failed.
 abbrev pub Done-or-failed : ℕ → Type 0
 Done-or-failed r = (r ≡ 0) ⊎ (r ≡ 3)
 
--- judge: the status of the verdict on some pieces, or 3
+-- Judge: the status of the verdict on some pieces, or 3.
 abbrev pub Judged-or-failed : ℕ → Type 0
 Judged-or-failed r = ((ps : List (List ℕ)) × (r ≡ status-on (judged-in at-first ps .verdict))) ⊎ (r ≡ 3)

@@ -44,7 +44,8 @@ fn reads(r: Reader) -> bool
     (d.stage < 2) & !((d.stage == 0) & (129 <= held.count))
 }
 
-// Where out is the one that `work` lends, there is room for the header; for all that a piece prints; for the end of the input; and for a lot of draws.
+// Where out is the one that `work` lends, there is room for the header, for all that a piece prints, for the end of the input,
+// and for a lot of draws.
 fn put_header(out: &mut [u8]) -> usize
     requires { ⌜ loops.draw-lent ≡ length (now out) ⌝ }
     ensures { λ x. ⌜ loops.Put x (now (out .exit)) draw-header × In-front x (now (out .exit)) ⌝ }

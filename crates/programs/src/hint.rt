@@ -26,7 +26,8 @@ pub(crate) fn hinted(told: bool, piece: &[u8]) -> bool {
     true
 }
 
-// Why a draw printed a line of zeros, and nothing was drawn. It is said in three texts: a check's time grows with the square of a text's length.
+// Why a draw printed a line of zeros, and nothing was drawn. It is said in three texts: a check's time grows with the square
+// of a text's length.
 pub(crate) fn hint_zeros() {
     say_nothing_drawn();
     say_what_14_is();

@@ -93,8 +93,8 @@ fn work(fd: i32) -> Done
     Done { judgement, went }
 }
 
-// It answers its status: the verdict's, or 3 where a read or a write failed. What it reads and writes no contract can say; what it writes of the
-// bytes read is judging's and report's.
+// It answers its status: the verdict's, or 3 where a read or a write failed. What it reads and writes no contract can say;
+// what it writes of the bytes read is judging's and report's.
 pub fn run(fd: i32) -> u8
     ensures { λ r. ⌜ loops.Judged-or-failed r ⌝ }
 {

@@ -30,7 +30,7 @@ struct Turn {
     told: bool,
 }
 
-// Where out is the one that `work` lends, there is room for the header; for all that a piece prints; and for a last line.
+// Where out is the one that `work` lends, there is room for the header, for all that a piece prints, and for a last line.
 fn put_header(out: &mut [u8]) -> usize
     requires { ⌜ loops.walk-lent ≡ length (now out) ⌝ }
     ensures { λ r. ⌜ loops.Put r (now (out .exit)) walk-header × In-front r (now (out .exit)) ⌝ }

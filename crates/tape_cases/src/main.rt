@@ -103,7 +103,8 @@ fn show_part(part: &[u8], code: u8) {
     show_record(tape::record_of(part));
 }
 
-// Writes what a reader has answered: its place, its part and the code, its next place. Answers how many turns are left: none where the place was kept.
+// Writes what a reader has answered: its place, its part and the code, its next place. Answers how many turns are left: none
+// where the place was kept.
 fn told(at: usize, part: &[u8], code: u8, next: usize, left: u32) -> u32
     ensures { λ r. ⌜ r ≤ left - 1 ⌝ }
 {

@@ -37,15 +37,21 @@ write-whole-requires c κs = search needs
 loop-less : tie.Need-loop-less Inv-loop μ-loop
 loop-less c =
     let lp = c .before .before .before .before .before .before .before .before .before .before .before .before .before .loop in
-    fewer (lp .draw) _ (eqb-true (lp .draw .stage) 2 (c .before .before .before .before .before .before .before .before .before .if2 .taken)) (ltb-true 0 (lp .draw .left) (c .before .before .before .before .before .before .before .if3 .taken)) (c .before .before .before .before .before .put-draws .ensures .0)
+    fewer (lp .draw) _ (eqb-true (lp .draw .stage) 2 (c .before .before .before .before .before .before .before .before .before .if2 .taken)) (ltb-true 0
+    (lp .draw .left) (c .before .before .before .before .before .before .before .if3 .taken))
+    (c .before .before .before .before .before .put-draws .ensures .0)
 
 loop-again : tie.Need-loop-again Inv-loop μ-loop
 loop-again c =
     let lp = c .before .before .before .before .before .before .before .before .before .before .before .before .before .loop in
     let f = c .before .before .before .before .before .before .before .before .before .before .before .before .has-failed in
     let put = c .before .before .before .before .before .put-draws in
-    let on = not-failed (lp .went .kind) (f .result) (f .ensures) (not-true (f .result) (c .before .before .before .before .before .before .before .before .before .before .before .if1 .taken)) in
-    (search needs, lot-drawn _ (lp .draw) _ _ (lp .went) _ (put .result .at) _ (lp .inv .1) on (put .ensures .0) (put .ensures .1) (c .before .write-whole .ensures))
+    let on = not-failed (lp .went .kind) (f .result) (f .ensures) (not-true (f .result)
+    (c .before .before .before .before .before .before .before .before .before .before .before .if1 .taken)) in (
+      search needs,
+      lot-drawn _ (lp .draw) _ _ (lp .went) _ (put .result .at) _ (lp .inv .1) on (put .ensures .0) (put .ensures .1)
+          (c .before .write-whole .ensures),
+    )
 
 same-length : tie.Need-same-length Inv-loop μ-loop
 same-length c = search needs

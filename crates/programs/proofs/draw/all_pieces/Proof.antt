@@ -11,7 +11,8 @@ use Rattle.programs.proofs.draw.all_pieces.Statement.{statement}
 use Rattle.programs.proofs.draw.all_pieces.Tie as tie
 
 abbrev Inv-loop : tie.InvT-loop
-Inv-loop fd piece₀ out₀ turns₀ reader₀ went₀ told₀ piece out turns reader went told = (length piece ≡ length piece₀) × (length out ≡ length out₀) × Running piece-behind piece-text at-first reader went₀ went turns
+Inv-loop fd piece₀ out₀ turns₀ reader₀ went₀ told₀ piece out turns reader went told = (length piece ≡ length piece₀) ×
+    (length out ≡ length out₀) × Running piece-behind piece-text at-first reader went₀ went turns
 
 abbrev μ-loop : tie.MeasureT-loop
 μ-loop fd piece₀ out₀ turns₀ reader₀ went₀ told₀ piece out turns reader went told = all-turns - turns
@@ -42,10 +43,12 @@ loop-again c =
     let lp = c .before .before .before .before .before .before .before .before .before .before .before .before .before .before .loop in
     let g = c .before .before .before .before .before .before .before .before .before .before .before .before .goes-on in
     let one = c .before .before .before .before .before .before .one-piece in
-    let on = gone-on (lp .went .kind) (g .result) (g .ensures) (c .before .before .before .before .before .before .before .before .before .before .before .if1 .taken) in (
+    let on = gone-on (lp .went .kind) (g .result) (g .ensures)
+    (c .before .before .before .before .before .before .before .before .before .before .before .if1 .taken) in (
       search needs,
       search needs,
-      one-turn piece-behind piece-text at-first (lp .reader) (one .result .reader) _ (lp .went) (one .result .went) (lp .turns) (lp .inv .2) on _ _ (one .ensures),
+      one-turn piece-behind piece-text at-first (lp .reader) (one .result .reader) _ (lp .went) (one .result .went) (lp .turns) (lp .inv .2) on _ _
+          (one .ensures),
     )
 
 same-length : tie.Need-same-length Inv-loop μ-loop
@@ -58,7 +61,8 @@ returns : tie.Need-returns Inv-loop μ-loop
 returns c =
     let lp = c .before .before .before .before .before .loop in
     let g = c .before .reads in
-    at-end piece-behind piece-text draw-wants at-first (lp .reader) _ (lp .went) (lp .turns) (lp .inv .2) (inr (inl (wants-none (draw-wants (lp .reader)) (g .result) (g .ensures) (c .if2 .left))))
+    at-end piece-behind piece-text draw-wants at-first (lp .reader) _ (lp .went) (lp .turns) (lp .inv .2) (inr (inl (wants-none (draw-wants (lp .reader))
+    (g .result) (g .ensures) (c .if2 .left))))
 
 same-length-3 : tie.Need-same-length-3 Inv-loop μ-loop
 same-length-3 c = search needs
@@ -70,7 +74,8 @@ returns-2 : tie.Need-returns-2 Inv-loop μ-loop
 returns-2 c =
     let lp = c .before .before .before .loop in
     let g = c .before .goes-on in
-    at-end piece-behind piece-text draw-wants at-first (lp .reader) _ (lp .went) (lp .turns) (lp .inv .2) (inl (stopped (lp .went .kind) (g .result) (g .ensures) (c .if1 .left)))
+    at-end piece-behind piece-text draw-wants at-first (lp .reader) _ (lp .went) (lp .turns) (lp .inv .2) (inl (stopped (lp .went .kind) (g .result)
+    (g .ensures) (c .if1 .left)))
 
 same-length-5 : tie.Need-same-length-5 Inv-loop μ-loop
 same-length-5 c = search needs

@@ -41,12 +41,14 @@ unfolding printed
 returns-2 c =
     let read = c .before .before .before .before .before .before .before .before .before .before .before .before .before .before .before .before .args .read in
     let f = c .before .before .before .before .before .before .before .before .before .before .before .before .before .before .has-failed in
-    let on = not-failed (read .kind) (f .result) (f .ensures) (c .before .before .before .before .before .before .before .before .before .before .before .before .before .if1 .left) in
+    let on = not-failed (read .kind) (f .result) (f .ensures)
+    (c .before .before .before .before .before .before .before .before .before .before .before .before .before .if1 .left) in
     let put = c .before .before .before .before .before .before .before .before .before .before .before .put-end in
     let w = c .before .before .before .before .before .before .before .write-whole in
     let took = took-text (end-text _) _ (put .result .at) (read .kind) read (w .result) (put .ensures .1) (w .ensures .1) in
     let all = c .before .before .all-draws in
-    then-more (end-text _) _ read (w .result) (all .result) on took (subst (λ (d : Draw). Concluded (some-text (d .left) d) (w .result) (all .result)) (put .ensures .0) (all .ensures))
+    then-more (end-text _) _ read (w .result) (all .result) on took (subst (λ (d : Draw). Concluded (some-text (d .left) d) (w .result) (all .result))
+    (put .ensures .0) (all .ensures))
 
 pub conclude-spec : {M : Type 1} → statement M
 conclude-spec =

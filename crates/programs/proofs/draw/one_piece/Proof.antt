@@ -23,7 +23,8 @@ returns : tie.Need-returns
 returns c =
     let g = c .before .goes-on in
     let got = c .before .before .before .before .read-piece in
-    unturned piece-behind piece-text _ (c .before .before .before .before .before .before .before .before .args .was) (got .result) _ _ (got .ensures) (stopped (got .result .kind) (g .result) (g .ensures) (not-true (g .result) (c .if1 .taken)))
+    unturned piece-behind piece-text _ (c .before .before .before .before .before .before .before .before .args .was) (got .result) _ _ (got .ensures)
+    (stopped (got .result .kind) (g .result) (g .ensures) (not-true (g .result) (c .if1 .taken)))
 
 brought-requires : tie.Need-brought-requires
 brought-requires c κs = search needs
@@ -32,7 +33,8 @@ slice-reshare-prefix-hinted : tie.Need-slice-reshare-prefix-hinted
 slice-reshare-prefix-hinted c = search needs
 
 slice-aggregate-hinted : tie.Need-slice-aggregate-hinted
-slice-aggregate-hinted c = sym (length-take-le _ _ (omega (arith, c .before .brought .ensures, c .before .before .before .before .before .before .read-piece .ensures .0 .0)))
+slice-aggregate-hinted c = sym (length-take-le _ _ (omega
+    (arith, c .before .brought .ensures, c .before .before .before .before .before .before .read-piece .ensures .0 .0)))
 
 hinted-requires : tie.Need-hinted-requires
 hinted-requires c κs = search needs
@@ -41,7 +43,8 @@ slice-reshare-prefix-put-lines : tie.Need-slice-reshare-prefix-put-lines
 slice-reshare-prefix-put-lines c = search needs
 
 slice-aggregate-put-lines : tie.Need-slice-aggregate-put-lines
-slice-aggregate-put-lines c = sym (length-take-le _ _ (omega (arith, c .before .before .before .brought .ensures, c .before .before .before .before .before .before .before .before .read-piece .ensures .0 .0)))
+slice-aggregate-put-lines c = sym (length-take-le _ _ (omega
+    (arith, c .before .before .before .brought .ensures, c .before .before .before .before .before .before .before .before .read-piece .ensures .0 .0)))
 
 put-lines-requires : tie.Need-put-lines-requires
 put-lines-requires c κs =
@@ -71,9 +74,13 @@ returns-2 c =
     let g = c .before .before .before .before .before .before .before .before .before .before .before .before .goes-on in
     let got = c .before .before .before .before .before .before .before .before .before .before .before .before .before .before .before .read-piece in
     let n = c .before .before .before .before .before .before .before .before .before .before .brought in
-    let on = gone-on (got .result .kind) (g .result) (g .ensures) (not-false (g .result) (c .before .before .before .before .before .before .before .before .before .before .before .if1 .left)) in
+    let on = gone-on (got .result .kind) (g .result) (g .ensures) (not-false (g .result)
+    (c .before .before .before .before .before .before .before .before .before .before .before .if1 .left)) in
     let f = c .before .before .before .before .before .put-lines in
-    turned piece-behind piece-text _ _ (c .before .before .before .before .before .before .before .before .before .before .before .before .before .before .before .before .before .before .before .args .was) (got .result) _ (n .result) (f .result .at) _ _ (got .ensures) on (n .ensures) (f .ensures .0) (f .ensures .1) (c .before .write-whole .ensures)
+    turned piece-behind piece-text _ _
+    (c .before .before .before .before .before .before .before .before .before .before .before .before .before .before .before .before .before .before
+    .before .args .was) (got .result) _ (n .result) (f .result .at) _ _ (got .ensures) on (n .ensures) (f .ensures .0) (f .ensures .1)
+    (c .before .write-whole .ensures)
 
 pub one-piece-spec : {M : Type 1} → statement M
 one-piece-spec =

@@ -51,7 +51,8 @@ returns c =
     let h = headed draw-header _ (put .result) (go .result) (w .result) (go .ensures) (put .ensures .0) (w .ensures) in
     let t = c .before .before .before .before .before .before .before .all-pieces in
     let end = c .before .conclude in
-    whole piece-behind piece-text draw-wants at-first _ draw-header (printed _ []) (w .result) _ (end .result) h (t .ensures) (end .ensures) printed (λ x p ps. refl) refl
+    whole piece-behind piece-text draw-wants at-first _ draw-header (printed _ []) (w .result) _ (end .result) h (t .ensures) (end .ensures) printed
+    (λ x p ps. refl) refl
 
 pub work-spec : {M : Type 1} → statement M
 work-spec =

@@ -47,8 +47,11 @@ loop-again c =
     let lp = c .before .before .before .before .before .before .before .before .before .before .before .loop in
     let g = c .before .before .before .before .before .before .before .before .before .goes-on in
     let one = c .before .before .before .before .one-piece in
-    let on = gone-on (lp .went .kind) (g .result) (g .ensures) (c .before .before .before .before .before .before .before .before .if1 .taken) in
-    (search needs, one-turn fed silent at-first (lp .judge) (one .result .judge) _ (lp .went) (one .result .went) (lp .turns) (lp .inv .1) on _ [] (one .ensures))
+    let on = gone-on (lp .went .kind) (g .result) (g .ensures) (c .before .before .before .before .before .before .before .before .if1 .taken) in (
+      search needs,
+      one-turn fed silent at-first (lp .judge) (one .result .judge) _ (lp .went) (one .result .went) (lp .turns) (lp .inv .1) on _ []
+          (one .ensures),
+    )
 
 same-length : tie.Need-same-length Inv-loop μ-loop
 same-length c = search needs
@@ -57,7 +60,8 @@ returns : tie.Need-returns Inv-loop μ-loop
 returns c =
     let lp = c .before .before .before .before .before .loop in
     let g = c .before .goes-on2 in
-    at-end fed silent judge-wants at-first (lp .judge) _ (lp .went) (lp .turns) (lp .inv .1) (inr (inl (wants-none (judge-wants (lp .judge)) (g .result) (g .ensures) (c .if2 .left))))
+    at-end fed silent judge-wants at-first (lp .judge) _ (lp .went) (lp .turns) (lp .inv .1) (inr (inl (wants-none (judge-wants (lp .judge)) (g .result)
+    (g .ensures) (c .if2 .left))))
 
 same-length-2 : tie.Need-same-length-2 Inv-loop μ-loop
 same-length-2 c = search needs
@@ -66,7 +70,8 @@ returns-2 : tie.Need-returns-2 Inv-loop μ-loop
 returns-2 c =
     let lp = c .before .before .before .loop in
     let g = c .before .goes-on in
-    at-end fed silent judge-wants at-first (lp .judge) _ (lp .went) (lp .turns) (lp .inv .1) (inl (stopped (lp .went .kind) (g .result) (g .ensures) (c .if1 .left)))
+    at-end fed silent judge-wants at-first (lp .judge) _ (lp .went) (lp .turns) (lp .inv .1) (inl (stopped (lp .went .kind) (g .result) (g .ensures)
+    (c .if1 .left)))
 
 same-length-3 : tie.Need-same-length-3 Inv-loop μ-loop
 same-length-3 c = search needs

@@ -25,7 +25,8 @@ returns : tie.Need-returns
 returns c =
     let g = c .before .goes-on in
     let got = c .before .before .before .before .read-piece in
-    unturned fed silent _ (c .before .before .before .before .before .before .before .args .was) (got .result) _ [] (got .ensures) (stopped (got .result .kind) (g .result) (g .ensures) (not-true (g .result) (c .if1 .taken)))
+    unturned fed silent _ (c .before .before .before .before .before .before .before .args .was) (got .result) _ [] (got .ensures) (stopped
+    (got .result .kind) (g .result) (g .ensures) (not-true (g .result) (c .if1 .taken)))
 
 brought-requires : tie.Need-brought-requires
 brought-requires c κs = search needs
@@ -34,7 +35,8 @@ slice-reshare-prefix-feed : tie.Need-slice-reshare-prefix-feed
 slice-reshare-prefix-feed c = search needs
 
 slice-aggregate-feed : tie.Need-slice-aggregate-feed
-slice-aggregate-feed c = sym (length-take-le _ _ (omega (arith, c .before .brought .ensures, c .before .before .before .before .before .before .read-piece .ensures .0 .0)))
+slice-aggregate-feed c = sym (length-take-le _ _ (omega
+    (arith, c .before .brought .ensures, c .before .before .before .before .before .before .read-piece .ensures .0 .0)))
 
 feed-requires : tie.Need-feed-requires
 feed-requires c κs = search needs
@@ -48,7 +50,8 @@ returns-2 c =
     let got = c .before .before .before .before .before .before .before .read-piece in
     let n = c .before .before .brought in
     let on = gone-on (got .result .kind) (g .result) (g .ensures) (not-false (g .result) (c .before .before .before .if1 .left)) in
-    turned fed silent _ _ (c .before .before .before .before .before .before .before .before .before .before .args .was) (got .result) (got .result) (n .result) 0 _ [] (got .ensures) on (n .ensures) (c .feed .ensures) (refl, refl) (refl, inl (refl, omega arith))
+    turned fed silent _ _ (c .before .before .before .before .before .before .before .before .before .before .args .was) (got .result) (got .result)
+    (n .result) 0 _ [] (got .ensures) on (n .ensures) (c .feed .ensures) (refl, refl) (refl, inl (refl, omega arith))
 
 pub one-piece-spec : {M : Type 1} → statement M
 one-piece-spec =

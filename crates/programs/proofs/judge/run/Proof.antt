@@ -7,7 +7,6 @@ use Rattle.judging.specs.declared.Judgement.{Judgement}
 use Rattle.judging.specs.Verdict.{status-of as status-on}
 use Rattle.programs.proofs.judge.run.Statement.{statement}
 use Rattle.programs.proofs.judge.run.Tie as tie
-use Rattle.judging.proofs.status.Reads as status-reads′
 
 work-requires : tie.Need-work-requires
 work-requires c κs = search needs

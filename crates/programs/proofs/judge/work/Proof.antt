@@ -32,8 +32,17 @@ returns c =
     let j = c .before .end in
     let end = c .conclude in
     let ps = t .ensures .pieces in
-    let all = in-all fed silent judge-wants at-first _ [] (report-text (j .result)) nothing-yet _ (end .result) (inl (refl, refl)) (t .ensures) (end .ensures) in
-    (ps, t .ensures .none-empty, j .ensures ∙ ap ended (t .ensures .state) ∙ sym (judged-behind ps at-first), ⊎-elim inl (λ x. inr (omega (arith, x .0, all-silent ps at-first), x .1)) all)
+    let all = in-all fed silent judge-wants at-first _ [] (report-text (j .result)) nothing-yet _ (end .result) (inl (refl, refl)) (t .ensures)
+    (end .ensures) in (
+      ps,
+      t .ensures .none-empty,
+      j .ensures ∙ ap ended (t .ensures .state) ∙ sym (judged-behind ps at-first),
+      ⊎-elim inl (λ x. inr (
+        omega
+            (arith, x .0, all-silent ps at-first),
+        x .1,
+      )) all,
+    )
 
 pub work-spec : {M : Type 1} → statement M
 work-spec =

@@ -12,7 +12,8 @@ use Rattle.programs.proofs.walk.all_pieces.Statement.{statement}
 use Rattle.programs.proofs.walk.all_pieces.Tie as tie
 
 abbrev Inv-loop : tie.InvT-loop
-Inv-loop fd piece₀ out₀ turns₀ walk₀ went₀ told₀ piece out turns walk went told = (length piece ≡ length piece₀) × (length out ≡ length out₀) × Running walk-after text-for at-first walk went₀ went turns
+Inv-loop fd piece₀ out₀ turns₀ walk₀ went₀ told₀ piece out turns walk went told = (length piece ≡ length piece₀) ×
+    (length out ≡ length out₀) × Running walk-after text-for at-first walk went₀ went turns
 
 abbrev μ-loop : tie.MeasureT-loop
 μ-loop fd piece₀ out₀ turns₀ walk₀ went₀ told₀ piece out turns walk went told = all-turns - turns
@@ -56,7 +57,8 @@ returns : tie.Need-returns Inv-loop μ-loop
 returns c =
     let lp = c .before .before .before .loop in
     let g = c .before .goes-on in
-    at-end walk-after text-for (λ w. true) at-first (lp .walk) _ (lp .went) (lp .turns) (lp .inv .2) (inl (stopped (lp .went .kind) (g .result) (g .ensures) (c .if1 .left)))
+    at-end walk-after text-for (λ w. true) at-first (lp .walk) _ (lp .went) (lp .turns) (lp .inv .2) (inl (stopped (lp .went .kind) (g .result)
+    (g .ensures) (c .if1 .left)))
 
 same-length-3 : tie.Need-same-length-3 Inv-loop μ-loop
 same-length-3 c = search needs

@@ -50,7 +50,8 @@ returns c =
     let h = headed walk-header _ (put .result) (go .result) (w .result) (go .ensures) (put .ensures .0) (w .ensures) in
     let t = c .before .before .before .before .before .before .before .all-pieces in
     let end = c .before .conclude in
-    whole walk-after text-for (λ w. true) at-first _ walk-header (last-text _) (w .result) _ (end .result) h (t .ensures) (end .ensures) printed (λ x p ps. refl) refl
+    whole walk-after text-for (λ w. true) at-first _ walk-header (last-text _) (w .result) _ (end .result) h (t .ensures) (end .ensures) printed
+    (λ x p ps. refl) refl
 
 pub work-spec : {M : Type 1} → statement M
 work-spec =
