@@ -232,7 +232,7 @@ abbrev pub as-reader : Kernel → Course → Held → Reader
 as-reader k c h = record { draw = as-draw k c; held = h }
 
 abbrev pub as-read : Kernel → Through → Read
-as-read k t = record { reader = as-reader k (t .course) (t .held); at = t .at }
+as-read k t = record { reader = as-reader k (t .course) (t .kept); at = t .at }
 
 abbrev pub as-drew : Kernel → Lot → Drew
 as-drew k t = record { draw = as-draw k (t .course); at = t .at }

@@ -298,10 +298,11 @@ pub fn header(out: &mut [u8]) -> usize
 // For so many lines, 2^56, no buffer has room; and the bytes of fewer fit 64 bits.
 const MANY: usize = 72057594037927936;
 
-// What stands behind the lines of a piece, beside the tables: the course, what is held of a line that has begun, and how many bytes were printed.
+// What stands behind the lines of a piece, beside the tables: the course, what is kept of a line that has begun, and how many bytes were
+// printed.
 struct Through {
     course: Course,
-    held: Held,
+    kept: Held,
     at: usize,
 }
 
@@ -317,29 +318,19 @@ fn hear_through(
     waiter: &mut [u8; 8],
     clock: &mut u64,
     started: &mut bool,
-    course: Course,
-    begun: Held,
+    mut course: Course,
+    mut kept: Held,
     piece: &[u8],
     out: &mut [u8],
 ) -> Through
-    ensures { λ r. ⌜ draw.Feeds (draw.as-reader (tables (now (base .entry)) (now (ready .entry)) (now (delayed .entry)) (now (held .entry)) (now (way .entry)) (now (until .entry)) (now (ceiling .entry)) (now (waiter .entry)) (now (clock .entry)) (now (started .entry))) course begun) (now (piece .entry)) (now (out .entry)) (draw.as-read (tables (now (base .exit)) (now (ready .exit)) (now (delayed .exit)) (now (held .exit)) (now (way .exit)) (now (until .exit)) (now (ceiling .exit)) (now (waiter .exit)) (now (clock .exit)) (now (started .exit))) r) (now (out .exit)) ⌝ }
+    ensures { λ r. ⌜ draw.Feeds (draw.as-reader (tables (now (base .entry)) (now (ready .entry)) (now (delayed .entry)) (now (held .entry)) (now (way .entry)) (now (until .entry)) (now (ceiling .entry)) (now (waiter .entry)) (now (clock .entry)) (now (started .entry))) course kept) (now (piece .entry)) (now (out .entry)) (draw.as-read (tables (now (base .exit)) (now (ready .exit)) (now (delayed .exit)) (now (held .exit)) (now (way .exit)) (now (until .exit)) (now (ceiling .exit)) (now (waiter .exit)) (now (clock .exit)) (now (started .exit))) r) (now (out .exit)) ⌝ }
 {
-    let mut c = course;
-    let mut kept = begun;
     let mut at = 0;
     if MANY <= piece.len() {
-        return Through {
-            course: c,
-            held: kept,
-            at,
-        };
+        return Through { course, kept, at };
     }
     if out.len() < 192 * (piece.len() + 1) {
-        return Through {
-            course: c,
-            held: kept,
-            at,
-        };
+        return Through { course, kept, at };
     }
     let mut from = 0;
     let mut left = piece.len() + 1;
@@ -347,11 +338,7 @@ fn hear_through(
         let cut = next_line(kept, piece, from);
         kept = cut.held;
         if !cut.whole {
-            return Through {
-                course: c,
-                held: kept,
-                at,
-            };
+            return Through { course, kept, at };
         }
         let h = hear(
             base,
@@ -364,31 +351,29 @@ fn hear_through(
             waiter,
             clock,
             started,
-            c,
+            course,
             kept,
         );
-        c = h.course;
+        course = h.course;
         at = put_shown(out, at, h.shown, h.row);
         kept = held_none();
         from = cut.next;
         left -= 1;
     }
-    Through {
-        course: c,
-        held: kept,
-        at,
-    }
+    Through { course, kept, at }
 }
 
-// The reader behind a piece, from its parts.
-fn behind(kernel: Kernel, t: Through) -> Read
-    ensures { λ r. ⌜ r ≡ draw.as-read kernel t ⌝ }
-{
-    let held = t.held;
-    let d = draw_of(kernel, t.course);
-    Read {
-        reader: Reader { draw: d, held },
-        at: t.at,
+impl Through {
+    // The reader behind a piece, from its parts.
+    fn behind(self, kernel: Kernel) -> Read
+        ensures { λ r. ⌜ r ≡ draw.as-read kernel self ⌝ }
+    {
+        let held = self.kept;
+        let d = draw_of(kernel, self.course);
+        Read {
+            reader: Reader { draw: d, held },
+            at: self.at,
+        }
     }
 }
 
@@ -396,18 +381,16 @@ fn behind(kernel: Kernel, t: Through) -> Read
 pub fn feed(r: Reader, piece: &[u8], out: &mut [u8]) -> Read
     ensures { λ x. ⌜ (x ≡ draw.fed r (now (piece .entry)) (now (out .entry))) × (now (out .exit) ≡ draw.fed-out r (now (piece .entry)) (now (out .entry))) × In-front (x .at) (now (out .exit)) ⌝ }
 {
-    let d = r.draw;
-    let k = d.kernel;
-    let mut base = k.base;
-    let mut ready = k.ready;
-    let mut delayed = k.delayed;
-    let mut held = k.held;
-    let mut way = k.way;
-    let mut until = k.until;
-    let mut ceiling = k.ceiling;
-    let mut waiter = k.waiter;
-    let mut clock = k.clock;
-    let mut started = k.started;
+    let mut base = r.draw.kernel.base;
+    let mut ready = r.draw.kernel.ready;
+    let mut delayed = r.draw.kernel.delayed;
+    let mut held = r.draw.kernel.held;
+    let mut way = r.draw.kernel.way;
+    let mut until = r.draw.kernel.until;
+    let mut ceiling = r.draw.kernel.ceiling;
+    let mut waiter = r.draw.kernel.waiter;
+    let mut clock = r.draw.kernel.clock;
+    let mut started = r.draw.kernel.started;
     let t = hear_through(
         &mut base,
         &mut ready,
@@ -419,12 +402,12 @@ pub fn feed(r: Reader, piece: &[u8], out: &mut [u8]) -> Read
         &mut waiter,
         &mut clock,
         &mut started,
-        course_of(d),
+        course_of(r.draw),
         r.held,
         piece,
         out,
     );
-    let kernel = Kernel {
+    t.behind(Kernel {
         base,
         ready,
         delayed,
@@ -435,8 +418,7 @@ pub fn feed(r: Reader, piece: &[u8], out: &mut [u8]) -> Read
         waiter,
         clock,
         started,
-    };
-    behind(kernel, t)
+    })
 }
 
 // A last line without a line end counts if it has a byte: its line end is fed.
@@ -513,24 +495,23 @@ fn draw_through(
     waiter: &mut [u8; 8],
     clock: &mut u64,
     started: &mut bool,
-    course: Course,
+    mut course: Course,
     most: usize,
     out: &mut [u8],
 ) -> Lot
     ensures { λ r. ⌜ draw.Draws (draw.as-draw (tables (now (base .entry)) (now (ready .entry)) (now (delayed .entry)) (now (held .entry)) (now (way .entry)) (now (until .entry)) (now (ceiling .entry)) (now (waiter .entry)) (now (clock .entry)) (now (started .entry))) course) most (now (out .entry)) (draw.as-drew (tables (now (base .exit)) (now (ready .exit)) (now (delayed .exit)) (now (held .exit)) (now (way .exit)) (now (until .exit)) (now (ceiling .exit)) (now (waiter .exit)) (now (clock .exit)) (now (started .exit))) r) (now (out .exit)) ⌝ }
 {
-    let mut c = course;
     let mut at = 0;
     if MANY <= most {
-        return Lot { course: c, at };
+        return Lot { course, at };
     }
     if out.len() < 192 * most {
-        return Lot { course: c, at };
+        return Lot { course, at };
     }
     let mut turns = most;
     while turns > 0 {
-        if (c.stage != 2) | (c.left == 0) {
-            return Lot { course: c, at };
+        if (course.stage != 2) | (course.left == 0) {
+            return Lot { course, at };
         }
         let x = draw_and_step(
             base,
@@ -543,33 +524,32 @@ fn draw_through(
             waiter,
             clock,
             started,
-            c.seed,
-            c.profile,
+            course.seed,
+            course.profile,
         );
         let drawn = x.drawn;
-        let n = following(c.n);
+        let n = following(course.n);
         at = put_draw_line(out, at, row_of(n, spoken(drawn), x.answer, *clock));
-        c = past(c, n, drawn.seed);
+        course = past(course, n, drawn.seed);
         turns -= 1;
     }
-    Lot { course: c, at }
+    Lot { course, at }
 }
 
 // Some draws. Where out has no room for a line for each, nothing is done.
 pub fn draw_some(d: Draw, most: usize, out: &mut [u8]) -> Drew
     ensures { λ x. ⌜ (x ≡ draw.drew d most (now (out .entry))) × (now (out .exit) ≡ draw.drew-out d most (now (out .entry))) × In-front (x .at) (now (out .exit)) ⌝ }
 {
-    let k = d.kernel;
-    let mut base = k.base;
-    let mut ready = k.ready;
-    let mut delayed = k.delayed;
-    let mut held = k.held;
-    let mut way = k.way;
-    let mut until = k.until;
-    let mut ceiling = k.ceiling;
-    let mut waiter = k.waiter;
-    let mut clock = k.clock;
-    let mut started = k.started;
+    let mut base = d.kernel.base;
+    let mut ready = d.kernel.ready;
+    let mut delayed = d.kernel.delayed;
+    let mut held = d.kernel.held;
+    let mut way = d.kernel.way;
+    let mut until = d.kernel.until;
+    let mut ceiling = d.kernel.ceiling;
+    let mut waiter = d.kernel.waiter;
+    let mut clock = d.kernel.clock;
+    let mut started = d.kernel.started;
     let t = draw_through(
         &mut base,
         &mut ready,

@@ -41,9 +41,10 @@ pub fn header(out: &mut [u8]) -> usize
     put_walk_header(out, 0)
 }
 
-// What stands behind a piece beside the tables: what is held of a line that has begun, how many lines there were, and how many bytes were printed.
+// What stands behind a piece, beside the tables: what is kept of a line that has begun, how many lines there were, and how many bytes were
+// printed.
 struct Through {
-    held: Held,
+    kept: Held,
     n: u64,
     at: usize,
 }
@@ -61,18 +62,16 @@ fn walk_through(
     waiter: &mut [u8; 8],
     clock: &mut u64,
     started: &mut bool,
-    begun: Held,
-    count: u64,
+    mut kept: Held,
+    mut n: u64,
     piece: &[u8],
     out: &mut [u8],
 ) -> Through
-    ensures { λ r. ⌜ walk.Feeds (walk.standing (tables (now (base .entry)) (now (ready .entry)) (now (delayed .entry)) (now (held .entry)) (now (way .entry)) (now (until .entry)) (now (ceiling .entry)) (now (waiter .entry)) (now (clock .entry)) (now (started .entry))) begun count) (now (piece .entry)) (now (out .entry)) (walk.stood (walk.standing (tables (now (base .exit)) (now (ready .exit)) (now (delayed .exit)) (now (held .exit)) (now (way .exit)) (now (until .exit)) (now (ceiling .exit)) (now (waiter .exit)) (now (clock .exit)) (now (started .exit))) (r .held) (r .n)) (r .at)) (now (out .exit)) ⌝ }
+    ensures { λ r. ⌜ walk.Feeds (walk.standing (tables (now (base .entry)) (now (ready .entry)) (now (delayed .entry)) (now (held .entry)) (now (way .entry)) (now (until .entry)) (now (ceiling .entry)) (now (waiter .entry)) (now (clock .entry)) (now (started .entry))) kept n) (now (piece .entry)) (now (out .entry)) (walk.stood (walk.standing (tables (now (base .exit)) (now (ready .exit)) (now (delayed .exit)) (now (held .exit)) (now (way .exit)) (now (until .exit)) (now (ceiling .exit)) (now (waiter .exit)) (now (clock .exit)) (now (started .exit))) (r .kept) (r .n)) (r .at)) (now (out .exit)) ⌝ }
 {
-    let mut kept = begun;
-    let mut n = count;
     let mut at = 0;
     if out.len() >> 7 <= piece.len() {
-        return Through { held: kept, n, at };
+        return Through { kept, n, at };
     }
     let mut from = 0;
     let mut left = piece.len() + 1;
@@ -80,7 +79,7 @@ fn walk_through(
         let c = next_command(kept, piece, from);
         kept = c.held;
         if !c.whole {
-            return Through { held: kept, n, at };
+            return Through { kept, n, at };
         }
         n = following(n);
         let row = tell(
@@ -101,21 +100,23 @@ fn walk_through(
         from = c.next;
         left -= 1;
     }
-    Through { held: kept, n, at }
+    Through { kept, n, at }
 }
 
-// The walk behind a piece, from its parts.
-fn behind(kernel: Kernel, t: Through) -> Fed
-    ensures { λ r. ⌜ r ≡ walk.stood (walk.standing kernel (t .held) (t .n)) (t .at) ⌝ }
-{
-    let held = t.held;
-    Fed {
-        walk: Walk {
-            kernel,
-            held,
-            n: t.n,
-        },
-        at: t.at,
+impl Through {
+    // The walk behind a piece, from its parts.
+    fn behind(self, kernel: Kernel) -> Fed
+        ensures { λ r. ⌜ r ≡ walk.stood (walk.standing kernel (self .kept) (self .n)) (self .at) ⌝ }
+    {
+        let held = self.kept;
+        Fed {
+            walk: Walk {
+                kernel,
+                held,
+                n: self.n,
+            },
+            at: self.at,
+        }
     }
 }
 
@@ -123,17 +124,16 @@ fn behind(kernel: Kernel, t: Through) -> Fed
 pub fn feed(w: Walk, piece: &[u8], out: &mut [u8]) -> Fed
     ensures { λ r. ⌜ (r ≡ walk.fed w (now (piece .entry)) (now (out .entry))) × (now (out .exit) ≡ walk.fed-out w (now (piece .entry)) (now (out .entry))) × walk.In-front (r .at) (now (out .exit)) ⌝ }
 {
-    let k = w.kernel;
-    let mut base = k.base;
-    let mut ready = k.ready;
-    let mut delayed = k.delayed;
-    let mut held = k.held;
-    let mut way = k.way;
-    let mut until = k.until;
-    let mut ceiling = k.ceiling;
-    let mut waiter = k.waiter;
-    let mut clock = k.clock;
-    let mut started = k.started;
+    let mut base = w.kernel.base;
+    let mut ready = w.kernel.ready;
+    let mut delayed = w.kernel.delayed;
+    let mut held = w.kernel.held;
+    let mut way = w.kernel.way;
+    let mut until = w.kernel.until;
+    let mut ceiling = w.kernel.ceiling;
+    let mut waiter = w.kernel.waiter;
+    let mut clock = w.kernel.clock;
+    let mut started = w.kernel.started;
     let t = walk_through(
         &mut base,
         &mut ready,
@@ -150,7 +150,7 @@ pub fn feed(w: Walk, piece: &[u8], out: &mut [u8]) -> Fed
         piece,
         out,
     );
-    let kernel = Kernel {
+    t.behind(Kernel {
         base,
         ready,
         delayed,
@@ -161,8 +161,7 @@ pub fn feed(w: Walk, piece: &[u8], out: &mut [u8]) -> Fed
         waiter,
         clock,
         started,
-    };
-    behind(kernel, t)
+    })
 }
 
 // A last line without a line end counts if it has a byte.

@@ -13,19 +13,21 @@ use Rattle.session.proofs.draw.draw_through.Statement.{statement}
 use Rattle.session.proofs.draw.draw_through.Tie as tie
 
 abbrev Inv-loop : tie.InvT-loop
-Inv-loop base₀ ready₀ delayed₀ held₀ way₀ until₀ ceiling₀ waiter₀ clock₀ started₀ most out₀ c₀ at₀ turns₀ base ready delayed held way until ceiling waiter clock started out c at turns =
-    Going (as-draw (tables base₀ ready₀ delayed₀ held₀ way₀ until₀ ceiling₀ waiter₀ clock₀ started₀) c₀) most out₀ (as-draw (tables base ready delayed held way until ceiling waiter clock started) c) at turns out
+Inv-loop b₀ r₀ d₀ h₀ w₀ u₀ c₀ q₀ t₀ s₀ course₀ most out₀ at₀ turns₀ b r d h w u c q t s course out at turns =
+    Going (as-draw (tables b₀ r₀ d₀ h₀ w₀ u₀ c₀ q₀ t₀ s₀) course₀) most out₀ (as-draw (tables b r d h w u c q t s) course) at turns out
     × (192 * most ≤ length out₀)
 
 abbrev μ-loop : tie.MeasureT-loop
-μ-loop base₀ ready₀ delayed₀ held₀ way₀ until₀ ceiling₀ waiter₀ clock₀ started₀ most out₀ c₀ at₀ turns₀ base ready delayed held way until ceiling waiter clock started out c at turns = turns
+μ-loop b₀ r₀ d₀ h₀ w₀ u₀ c₀ q₀ t₀ s₀ course₀ most out₀ at₀ turns₀ b r d h w u c q t s course out at turns = turns
 
 -- the draw that is begun with; and the tables at the start of a turn
 abbrev begun-with : tie.Start Inv-loop μ-loop → Draw
-begun-with s = as-draw (tables (s .args .base .now) (s .args .ready .now) (s .args .delayed .now) (s .args .held .now) (s .args .way .now) (s .args .until .now) (s .args .ceiling .now) (s .args .waiter .now) (s .args .clock .now) (s .args .started .now)) (s .args .course)
+begun-with s = as-draw (tables (s .args .base .now) (s .args .ready .now) (s .args .delayed .now) (s .args .held .now) (s .args .way .now) (s .args .until .now)
+    (s .args .ceiling .now) (s .args .waiter .now) (s .args .clock .now) (s .args .started .now)) (s .args .course)
 
 abbrev lent : tie.At-loop Inv-loop μ-loop → Kernel
-lent c = tables (c .loop .base) (c .loop .ready) (c .loop .delayed) (c .loop .held) (c .loop .way) (c .loop .until) (c .loop .ceiling) (c .loop .waiter) (c .loop .clock) (c .loop .started)
+lent c = tables (c .loop .base) (c .loop .ready) (c .loop .delayed) (c .loop .held) (c .loop .way) (c .loop .until)
+    (c .loop .ceiling) (c .loop .waiter) (c .loop .clock) (c .loop .started)
 
 returns : tie.Need-returns Inv-loop μ-loop
 returns c = let s = c .before .before in no-room-for (begun-with s) (s .args .most) (s .args .out .now) (omega (arith, c .if1 .taken))
@@ -50,7 +52,7 @@ returns-3 c =
     let turn = c .before .before .before .before in
     let lp = turn .loop in
     let s = turn .before .before .before .before in
-    let d = as-draw (lent turn) (lp .c) in
+    let d = as-draw (lent turn) (lp .course) in
     all-drawn (begun-with s) (s .args .most) (s .args .out .now) d (lp .at) (lp .turns) (lp .out) (lp .inv .0) (is-idle d (c .if3 .taken) (lp .turns)) (lp .inv .1)
 
 draw-and-step-requires : tie.Need-draw-and-step-requires Inv-loop μ-loop
@@ -72,7 +74,7 @@ past-requires : tie.Need-past-requires Inv-loop μ-loop
 past-requires c κs =
     let test = c .before .before .before .before .before .before .before .before .before .before .before .before .before .before .before .before .before .before .before .before in
     let lp = test .before .before .before .before .loop in
-    not-idle (lp .c .stage) (lp .c .left) (test .if3 .left) .1
+    not-idle (lp .course .stage) (lp .course .left) (test .if3 .left) .1
 
 sub-turns : tie.Need-sub-turns Inv-loop μ-loop
 sub-turns c = omega (arith, c .before .before .before .before .before .before .before .before .before .before .before .before .before .before .before .before .before .before .before .before .before .before .before .before .loop-test .taken)
@@ -90,11 +92,11 @@ loop-again c =
     let turn = test .before .before .before .before in
     let lp = turn .loop in
     let s = turn .before .before .before .before in
-    let draws = not-idle (lp .c .stage) (lp .c .left) (test .if3 .left) in
+    let draws = not-idle (lp .course .stage) (lp .course .left) (test .if3 .left) in
     let row = rw (line .before .before .spoken .ensures) at (line .row-of .ensures) in
-    let drawn = is-drawn (lent turn) _ (lp .c) (number .following .result) (line .row-of .result) (number .following .ensures) (step .result) (draws .0) (draws .1) (step .ensures) row in (
+    let drawn = is-drawn (lent turn) _ (lp .course) (number .following .result) (line .row-of .result) (number .following .ensures) (step .result) (draws .0) (draws .1) (step .ensures) row in (
       rw (c .past .ensures)
-          (going-again (begun-with s) (s .args .most) (s .args .out .now) (as-draw (lent turn) (lp .c)) (lp .at) (lp .turns) (lp .out) (lp .inv .0) (put .result) _ (put .last .0)
+          (going-again (begun-with s) (s .args .most) (s .args .out .now) (as-draw (lent turn) (lp .course)) (lp .at) (lp .turns) (lp .out) (lp .inv .0) (put .result) _ (put .last .0)
           drawn (put .ensures .0) (put .ensures .1) (test .before .before .before .loop-test .taken)),
       lp .inv .1,
     )
@@ -106,7 +108,7 @@ returns-4 : tie.Need-returns-4 Inv-loop μ-loop
 returns-4 c =
     let lp = c .before .loop in
     let s = c .before .before .before .before .before in
-    let d = as-draw (lent (c .before)) (lp .c) in
+    let d = as-draw (lent (c .before)) (lp .course) in
     all-drawn (begun-with s) (s .args .most) (s .args .out .now) d (lp .at) (lp .turns) (lp .out) (lp .inv .0) (none-asked d (lp .turns) (c .loop-test .left)) (lp .inv .1)
 
 pub draw-through-spec : {M : Type 1} → statement M

@@ -1,5 +1,4 @@
 -- `session::draw::finish` meets its contract: no room for two lines, or both are put. Assumes nothing.
-use mathlib.Core.Path.{_∙_}
 use borrow.Author.Needs.{needs}
 use Rattle.session.specs.Draw.{as-heard}
 use Rattle.session.proofs.Drawing.{no-room-for-two, both-put}

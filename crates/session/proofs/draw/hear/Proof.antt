@@ -10,7 +10,8 @@ use Rattle.session.proofs.draw.hear.Statement.{statement}
 use Rattle.session.proofs.draw.hear.Tie as tie
 
 abbrev lent : tie.Start → Kernel
-lent s = tables (s .args .base .now) (s .args .ready .now) (s .args .delayed .now) (s .args .held .now) (s .args .way .now) (s .args .until .now) (s .args .ceiling .now) (s .args .waiter .now) (s .args .clock .now) (s .args .started .now)
+lent s = tables (s .args .base .now) (s .args .ready .now) (s .args .delayed .now) (s .args .held .now) (s .args .way .now) (s .args .until .now)
+    (s .args .ceiling .now) (s .args .waiter .now) (s .args .clock .now) (s .args .started .now)
 
 held-first-line-requires : tie.Need-held-first-line-requires
 held-first-line-requires c κs = search needs

@@ -16,19 +16,21 @@ use Rattle.session.proofs.draw.hear_through.Statement.{statement}
 use Rattle.session.proofs.draw.hear_through.Tie as tie
 
 abbrev Inv-loop : tie.InvT-loop
-Inv-loop base₀ ready₀ delayed₀ held₀ way₀ until₀ ceiling₀ waiter₀ clock₀ started₀ piece out₀ c₀ kept₀ at₀ from₀ left₀ base ready delayed held way until ceiling waiter clock started out c kept at from left =
-    Still (as-reader (tables base₀ ready₀ delayed₀ held₀ way₀ until₀ ceiling₀ waiter₀ clock₀ started₀) c₀ kept₀) piece out₀ (as-draw (tables base ready delayed held way until ceiling waiter clock started) c) kept from at left out
+Inv-loop b₀ r₀ d₀ h₀ w₀ u₀ c₀ q₀ t₀ s₀ course₀ kept₀ piece out₀ at₀ from₀ left₀ b r d h w u c q t s course kept out at from left =
+    Still (as-reader (tables b₀ r₀ d₀ h₀ w₀ u₀ c₀ q₀ t₀ s₀) course₀ kept₀) piece out₀ (as-draw (tables b r d h w u c q t s) course) kept from at left out
     × (192 * suc (length piece) ≤ length out₀)
 
 abbrev μ-loop : tie.MeasureT-loop
-μ-loop base₀ ready₀ delayed₀ held₀ way₀ until₀ ceiling₀ waiter₀ clock₀ started₀ piece out₀ c₀ kept₀ at₀ from₀ left₀ base ready delayed held way until ceiling waiter clock started out c kept at from left = left
+μ-loop b₀ r₀ d₀ h₀ w₀ u₀ c₀ q₀ t₀ s₀ course₀ kept₀ piece out₀ at₀ from₀ left₀ b r d h w u c q t s course kept out at from left = left
 
 -- the reader that is begun with; and the tables at the start of a turn
 abbrev begun-with : tie.Start Inv-loop μ-loop → Reader
-begun-with s = as-reader (tables (s .args .base .now) (s .args .ready .now) (s .args .delayed .now) (s .args .held .now) (s .args .way .now) (s .args .until .now) (s .args .ceiling .now) (s .args .waiter .now) (s .args .clock .now) (s .args .started .now)) (s .args .course) (s .args .begun)
+begun-with s = as-reader (tables (s .args .base .now) (s .args .ready .now) (s .args .delayed .now) (s .args .held .now) (s .args .way .now) (s .args .until .now)
+    (s .args .ceiling .now) (s .args .waiter .now) (s .args .clock .now) (s .args .started .now)) (s .args .course) (s .args .kept)
 
 abbrev lent : tie.At-loop Inv-loop μ-loop → Kernel
-lent c = tables (c .loop .base) (c .loop .ready) (c .loop .delayed) (c .loop .held) (c .loop .way) (c .loop .until) (c .loop .ceiling) (c .loop .waiter) (c .loop .clock) (c .loop .started)
+lent c = tables (c .loop .base) (c .loop .ready) (c .loop .delayed) (c .loop .held) (c .loop .way) (c .loop .until)
+    (c .loop .ceiling) (c .loop .waiter) (c .loop .clock) (c .loop .started)
 
 returns : tie.Need-returns Inv-loop μ-loop
 returns c =
@@ -70,7 +72,7 @@ returns-3 c =
     let p = s .args .piece .now in
     let o = c .before .before .before .before .loop-test .taken in
     let n = not-true (cut .result .whole) (c .if3 .taken) in
-    all-heard (begun-with s) p (s .args .out .now) (as-draw (lent turn) (lp .c)) (lp .kept) (lp .from) (lp .at) (lp .left) (lp .out) (lp .inv .0) (cut .result .held)
+    all-heard (begun-with s) p (s .args .out .now) (as-draw (lent turn) (lp .course)) (lp .kept) (lp .from) (lp .at) (lp .left) (lp .out) (lp .inv .0) (cut .result .held)
     (cuts-part (lp .kept) p (lp .from) (cut .result) (cut .ensures) (lp .left) o n)
     (holds-part (lp .kept) p (lp .from) (cut .result) (cut .ensures) (lp .left) o n) (lp .inv .1)
 
@@ -98,7 +100,7 @@ loop-again c =
     let turn = whole .before .before .before .before .before in
     let lp = turn .loop in
     let s = turn .before .before .before .before .before in (
-      still-again (begun-with s) (s .args .piece .now) (s .args .out .now) (as-draw (lent turn) (lp .c)) (lp .kept) (lp .from) (lp .at) (lp .left) (lp .out) (lp .inv .0)
+      still-again (begun-with s) (s .args .piece .now) (s .args .out .now) (as-draw (lent turn) (lp .course)) (lp .kept) (lp .from) (lp .at) (lp .left) (lp .out) (lp .inv .0)
           (cut .result) (cut .ensures) (put .result) (as-heard _ (line .hear .result)) (put .last .0) (c .held-none .result) (line .hear .ensures) (put .ensures .0) (put .ensures .1)
           (c .held-none .ensures) (whole .before .before .before .before .loop-test .taken) (not-false (cut .result .whole) (whole .if3 .left)),
       lp .inv .1,
@@ -112,7 +114,7 @@ returns-4 c =
     let lp = c .before .loop in
     let s = c .before .before .before .before .before .before in
     let p = s .args .piece .now in
-    all-heard (begun-with s) p (s .args .out .now) (as-draw (lent (c .before)) (lp .c)) (lp .kept) (lp .from) (lp .at) (lp .left) (lp .out) (lp .inv .0) (lp .kept)
+    all-heard (begun-with s) p (s .args .out .now) (as-draw (lent (c .before)) (lp .course)) (lp .kept) (lp .from) (lp .at) (lp .left) (lp .out) (lp .inv .0) (lp .kept)
     (cuts-none (lp .kept) p (lp .from) (lp .left) (c .loop-test .left))
     (holds-none (lp .kept) p (lp .from) (lp .left) (c .loop-test .left)) (lp .inv .1)
 

@@ -16,20 +16,21 @@ use Rattle.session.proofs.walk.walk_through.Statement.{statement}
 use Rattle.session.proofs.walk.walk_through.Tie as tie
 
 abbrev Inv-loop : tie.InvT-loop
-Inv-loop base₀ ready₀ delayed₀ held₀ way₀ until₀ ceiling₀ waiter₀ clock₀ started₀ count piece out₀ kept₀ n₀ at₀ from₀ left₀ base ready delayed held way until ceiling waiter clock started out kept n at from left =
-    Still (standing (tables base₀ ready₀ delayed₀ held₀ way₀ until₀ ceiling₀ waiter₀ clock₀ started₀) kept₀ n₀) piece out₀ (tables base ready delayed held way until ceiling waiter clock started) kept n from at left out
+Inv-loop b₀ r₀ d₀ h₀ w₀ u₀ c₀ q₀ t₀ s₀ kept₀ n₀ piece out₀ at₀ from₀ left₀ b r d h w u c q t s kept n out at from left =
+    Still (standing (tables b₀ r₀ d₀ h₀ w₀ u₀ c₀ q₀ t₀ s₀) kept₀ n₀) piece out₀ (tables b r d h w u c q t s) kept n from at left out
     × (128 * suc (length piece) ≤ length out₀)
 
 abbrev μ-loop : tie.MeasureT-loop
-μ-loop base₀ ready₀ delayed₀ held₀ way₀ until₀ ceiling₀ waiter₀ clock₀ started₀ count piece out₀ kept₀ n₀ at₀ from₀ left₀ base ready delayed held way until ceiling waiter clock started out kept n at from left = left
+μ-loop b₀ r₀ d₀ h₀ w₀ u₀ c₀ q₀ t₀ s₀ kept₀ n₀ piece out₀ at₀ from₀ left₀ b r d h w u c q t s kept n out at from left = left
 
--- the walk that is begun with
+-- the walk that is begun with; and the tables at the start of a turn
 abbrev begun-with : tie.Start Inv-loop μ-loop → Walk
-begun-with s = standing (tables (s .args .base .now) (s .args .ready .now) (s .args .delayed .now) (s .args .held .now) (s .args .way .now) (s .args .until .now) (s .args .ceiling .now) (s .args .waiter .now) (s .args .clock .now) (s .args .started .now)) (s .args .begun) (s .args .count)
+begun-with s = standing (tables (s .args .base .now) (s .args .ready .now) (s .args .delayed .now) (s .args .held .now) (s .args .way .now) (s .args .until .now)
+    (s .args .ceiling .now) (s .args .waiter .now) (s .args .clock .now) (s .args .started .now)) (s .args .kept) (s .args .n)
 
--- and the tables at the start of a turn
 abbrev lent : tie.At-loop Inv-loop μ-loop → Kernel
-lent c = tables (c .loop .base) (c .loop .ready) (c .loop .delayed) (c .loop .held) (c .loop .way) (c .loop .until) (c .loop .ceiling) (c .loop .waiter) (c .loop .clock) (c .loop .started)
+lent c = tables (c .loop .base) (c .loop .ready) (c .loop .delayed) (c .loop .held) (c .loop .way) (c .loop .until)
+    (c .loop .ceiling) (c .loop .waiter) (c .loop .clock) (c .loop .started)
 
 returns : tie.Need-returns Inv-loop μ-loop
 returns c =

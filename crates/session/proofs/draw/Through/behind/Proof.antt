@@ -1,7 +1,7 @@
--- `session::draw::behind` meets its contract. Assumes nothing.
+-- `Through::behind` of draw meets its contract. Assumes nothing.
 use borrow.Author.Needs.{needs}
-use Rattle.session.proofs.draw.behind.Statement.{statement}
-use Rattle.session.proofs.draw.behind.Tie as tie
+use Rattle.session.proofs.draw.Through.behind.Statement.{statement}
+use Rattle.session.proofs.draw.Through.behind.Tie as tie
 
 draw-of-requires : tie.Need-draw-of-requires
 draw-of-requires c κs = search needs
