@@ -22,7 +22,8 @@ use Rattle.generator.specs.declared.Drawn.{Drawn}
 use Rattle.generator.specs.declared.Carried.{Carried}
 use Rattle.generator.specs.Public.{drawnOf, refusedOf, behindDraw, answerTo, carriedOf}
 use Rattle.generator.proofs.Shipped.{refused-leaves}
-use Rattle.image.specs.Calls.{fitted, packed, packedLeft, stepAnswer, stepImage, leftAnswer, toldProfile, fittedProfile, drawOn, packedDrawn, drawAnswer, drawSeed, drawValue, drawStepAnswer, drawStepImage}
+use Rattle.image.specs.Calls.{fitted, packed, packedLeft, stepAnswer, stepImage, leftAnswer}
+use Rattle.image.specs.Calls.{toldProfile, fittedProfile, drawOn, packedDrawn, drawAnswer, drawSeed, drawValue, drawStepAnswer, drawStepImage}
 use Rattle.image.specs.Tables.{stepRead, kept, drawnRead, behindRead}
 use Rattle.image.proofs.Cut.{asked, asked-draw}
 
@@ -59,7 +60,8 @@ module _ (s : List ℕ) (k : Kernel) (c : Command) where
   unfolding stepAnswer
   step-answered = go (formed s) refl (isSound (kernelOf s)) refl
     where
-      go : (f : Bool) → formed s ≡ f → (b : Bool) → isSound (kernelOf s) ≡ b → packed (stepRead s k c .answer) ≡ cond (isImage s) (packed (stepOf (kernelOf s) c .answer)) 1
+      go : (f : Bool) → formed s ≡ f → (b : Bool) → isSound (kernelOf s) ≡ b
+          → packed (stepRead s k c .answer) ≡ cond (isImage s) (packed (stepOf (kernelOf s) c .answer)) 1
       go false h b e = rw (h, unformed s h)
       go true h true e = rw (h, image-sound s h, e)
       go true h false e = rw (h, image-sound s h, e, unsound (kernelOf s) c e)
@@ -69,7 +71,7 @@ module _ (s : List ℕ) (k : Kernel) (c : Command) where
   step-left = go (formed s) refl (isSound (kernelOf s)) refl
     where
       go : (f : Bool) → formed s ≡ f → (b : Bool) → isSound (kernelOf s) ≡ b
-          → kept s (stepRead s k c .next) (stepRead s k c .answer) ≡ cond (isImage s && eqb (stepOf (kernelOf s) c .answer .code) 0) (imageOf (stepOf (kernelOf s) c .next)) s
+          → let r = stepOf (kernelOf s) c in kept s (stepRead s k c .next) (stepRead s k c .answer) ≡ cond (isImage s && eqb (r .answer .code) 0) (imageOf (r .next)) s
       go false h b e = rw (h, unformed s h)
       go true h true e = rw (h, image-sound s h, e, eq-eqb (length s) 512 (formed-size s h))
       go true h false e = rw (h, image-sound s h, e, unsound (kernelOf s) c e)
@@ -82,7 +84,8 @@ pub same-carried : {d e : Drawn} {a b : Answer} → d ≡ e → a ≡ b → carr
 same-carried p q = cc
 
 -- The tables t and the answer a that the step of a command d that fits leaves: packed, and laid out.
-module _ {t : Kernel} {a : Answer} {d : Command} (s : List ℕ) (k : Kernel) (c : Command) (fits : d ≡ fitted c) (left : t ≡ stepRead s k d .next) (replied : a ≡ stepRead s k d .answer) where
+module _ {t : Kernel} {a : Answer} {d : Command} (s : List ℕ) (k : Kernel) (c : Command) (fits : d ≡ fitted c)
+    (left : t ≡ stepRead s k d .next) (replied : a ≡ stepRead s k d .answer) where
   pub step-ends : (packed a ≡ stepAnswer s c) × (kept s t a ≡ stepImage s c)
   step-ends =
       let e = asked s k c fits in
@@ -181,7 +184,7 @@ left-so s k seed p = go (formed s) refl
     go true h = rw (h, ← answered-draw s seed p h) (left-there s seed p h (eqb (drawnOf (kernelOf s) seed p .code) 0) refl)
     go false h = rw (h, ← none-draw s seed p h)
 
-said-so : (s : List ℕ) (seed : ℕ) (p : Profile) → drawOn s seed p .code ≡ 0 → packed (drawnRead s seed p .answer) ≡ stepAnswer s (said (drawOn s seed p .command))
+said-so : (s : List ℕ) (seed : ℕ) (p : Profile) → let d = drawOn s seed p in d .code ≡ 0 → packed (drawnRead s seed p .answer) ≡ stepAnswer s (said (d .command))
 said-so s seed p = go (formed s) refl
   where
     go : (b : Bool) → formed s ≡ b → drawOn s seed p .code ≡ 0 → packed (drawnRead s seed p .answer) ≡ stepAnswer s (said (drawOn s seed p .command))
@@ -202,7 +205,8 @@ module _ (s : List ℕ) (k : Kernel) (seed span : ℕ) (weights : List ℕ) (val
   image-so = left ∙ left-so s k seed p ∙ ap (λ (d : Drawn). cond (eqb (d .code) 0) (stepImage s (said (d .command))) s) same-draw
 
   pub refused-draw-step : {n : ℕ} → r .drawn .code ≢ 0 → n ≡ packedDrawn (r .drawn)
-      → (n ≡ drawStepAnswer s seed span weights) × (t ≡ drawStepImage s seed span weights) × (seed ≡ drawSeed s seed span weights) × (value ≡ drawValue s seed span weights value)
+      → (n ≡ drawStepAnswer s seed span weights) × (t ≡ drawStepImage s seed span weights)
+      × (seed ≡ drawSeed s seed span weights) × (value ≡ drawValue s seed span weights value)
   unfolding drawStepAnswer
   refused-draw-step z e =
       let w = refused-draw s seed span weights value e drawing z in
@@ -211,13 +215,15 @@ module _ (s : List ℕ) (k : Kernel) (seed span : ℕ) (weights : List ℕ) (val
       (e ∙ ap packedDrawn drawing ∙ rw none (sym (add-zero (packedDrawn found))), image-so, w .1, w .2)
 
   pub accepted-draw-step : {n : ℕ} → r .drawn .code ≡ 0 → n ≡ packedDrawn (r .drawn) + 4294967296 * packed (r .answer)
-      → (n ≡ drawStepAnswer s seed span weights) × (t ≡ drawStepImage s seed span weights) × (r .drawn .seed ≡ drawSeed s seed span weights) × (r .drawn .command .value ≡ drawValue s seed span weights value)
+      → (n ≡ drawStepAnswer s seed span weights) × (t ≡ drawStepImage s seed span weights)
+      × (r .drawn .seed ≡ drawSeed s seed span weights) × (r .drawn .command .value ≡ drawValue s seed span weights value)
   unfolding drawStepAnswer
   accepted-draw-step z e =
       let w = accepted-draw s seed span weights value refl drawing z in
       let found = drawOn s seed (toldProfile span weights) in
       let made : found .code ≡ 0 = ap (λ (d : Drawn). d .code) (sym drawing) ∙ z in
-      let said-there = ap (λ (c : Carried). packed (c .answer)) carried ∙ said-so s seed p (ap (λ (d : Drawn). d .code) same-draw ∙ made) ∙ ap (λ (d : Drawn). stepAnswer s (said (d .command))) same-draw in
+      let so = said-so s seed p (ap (λ (d : Drawn). d .code) same-draw ∙ made) in
+      let said-there = ap (λ (c : Carried). packed (c .answer)) carried ∙ so ∙ ap (λ (d : Drawn). stepAnswer s (said (d .command))) same-draw in
       (e ∙ both (ap packedDrawn drawing) said-there ∙ rw (eq-eqb (found .code) 0 made), image-so, w .1, w .2)
     where
       both : {a b c d : ℕ} → a ≡ b → c ≡ d → a + 4294967296 * c ≡ b + 4294967296 * d

@@ -20,10 +20,12 @@ use Rattle.image.proofs.rvn_draw
 use Rattle.image.proofs.rvn_draw_step
 
 -- Four parts that are equal to four others' (as one_answer's laws of two and three).
-same-four : {X Y Z W : Type 0} {r s : X} {m n : Y} {u v : Z} {g h : W} → r ≡ s → m ≡ n → u ≡ v → g ≡ h → _≡_ {A = X × Y × Z × W} (r, m, u, g) (s, n, v, h)
+same-four : {X Y Z W : Type 0} {r s : X} {m n : Y} {u v : Z} {g h : W} → r ≡ s → m ≡ n → u ≡ v → g ≡ h
+    → _≡_ {A = X × Y × Z × W} (r, m, u, g) (s, n, v, h)
 same-four a b c d = cc
 
-each-of-four : {X Y Z W : Type 0} {x r s : X} {y m n : Y} {z u v : Z} {w g h : W} → (r ≡ x) × (m ≡ y) × (u ≡ z) × (g ≡ w) → (s ≡ x) × (n ≡ y) × (v ≡ z) × (h ≡ w)
+each-of-four : {X Y Z W : Type 0} {x r s : X} {y m n : Y} {z u v : Z} {w g h : W}
+    → (r ≡ x) × (m ≡ y) × (u ≡ z) × (g ≡ w) → (s ≡ x) × (n ≡ y) × (v ≡ z) × (h ≡ w)
     → _≡_ {A = X × Y × Z × W} (r, m, u, g) (s, n, v, h)
 each-of-four p q = same-four (p .0 ∙ sym (q .0)) (p .1 ∙ sym (q .1)) (p .2 ∙ sym (q .2)) (p .3 ∙ sym (q .3))
 
@@ -42,5 +44,6 @@ module _ {M : Type 1} (𝓤 : URA M) (H : Heap 𝓤) (A : Atoms 𝓤) (mem : Mem
   rvn-draw-single κs a g r s d e = both 𝓤 _ _ _ each-of-three
 
   -- the image, the seed and the value
-  pub rvn-draw-step-single : OneEnd 𝓤 rvn_draw_step.ended (rvn_draw_step.clauses 𝓤 H A mem run) (ℕ × List ℕ × ℕ × ℕ) (λ κs r e. (r, now (e .0), now (e .1 .0), now (e .1 .1 .1 .1 .0)))
+  pub rvn-draw-step-single : OneEnd 𝓤 rvn_draw_step.ended (rvn_draw_step.clauses 𝓤 H A mem run) (ℕ × List ℕ × ℕ × ℕ)
+      (λ κs r e. (r, now (e .0), now (e .1 .0), now (e .1 .1 .1 .1 .0)))
   rvn-draw-step-single κs a g r s d e = both 𝓤 _ _ _ each-of-four

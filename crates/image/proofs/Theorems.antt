@@ -34,7 +34,8 @@ use Rattle.generator.specs.Public.{profileOf, toldDrawn, refusedOf, drawnIn, dr
 use Rattle.draws.proofs.Theorems.{drawn-is-fine}
 use Rattle.generator.proofs.Shipped.{code-in-order, drawn-accepted, draws-39}
 use Rattle.layout.specs.Layout.{imageOf, kernelOf, clean, formed, isImage}
-use Rattle.image.specs.Calls.{told, packed, stepAnswer, stepImage, freshAnswer, freshImage, toldProfile, drawOn, packedDrawn, drawAnswer, drawSeed, drawValue, drawStepAnswer, drawStepImage}
+use Rattle.image.specs.Calls.{told, packed, stepAnswer, stepImage, freshAnswer, freshImage}
+use Rattle.image.specs.Calls.{toldProfile, drawOn, packedDrawn, drawAnswer, drawSeed, drawValue, drawStepAnswer, drawStepImage}
 use Rattle.image.proofs.Exits.{left-alone}
 use Rattle.layout.proofs.RoundTrip.{Bytes, image-size, image-back, bytes-are}
 
@@ -199,18 +200,27 @@ module _ (s : List ℕ) (seed span : ℕ) (weights : List ℕ) (value : ℕ) whe
   unfolding drawAnswer
   code-of = let small = code-small s seed (toldProfile span weights) in omega arith
 
-  pub drawn-steps : drawAnswer s seed span weights % 256 ≡ 0
-      → let r = drawAnswer s seed span weights in stepAnswer s (told (r / 256 % 256) (r / 65536 % 256) (r / 16777216) (drawValue s seed span weights value)) % 256 ≡ 0
-  unfolding drawAnswer drawValue stepAnswer
-  drawn-steps e =
+  -- where the draw is accepted: its parts are read off the answer
+  parts-of : drawAnswer s seed span weights % 256 ≡ 0
+      → let r = packedDrawn found in let c = found .command in (found .code ≡ 0) × (r / 256 % 256 ≡ c .op) × (r / 65536 % 256 ≡ c .a) × (r / 16777216 ≡ c .b)
+  parts-of e =
       let p = toldProfile span weights in
       let done : found .code ≡ 0 = sym code-of ∙ e in
       let q = of-image s seed p done in
       let made : drawnOf (kernelOf s) seed p .code ≡ 0 = rw (← q .1) done in
       let small : (found .command .op < 256) × (found .command .a < 256) = rw (q .1) (drawn-small (kernelOf s) seed p (image-sound s (q .0)) made) in
       let u = unpacked-draw found (code-small s seed p) (small .0) (small .1) in
-      let accepted = drawn-accepted (kernelOf s) seed p made in
-      rw (u .1, u .2, u .3, eq-eqb (found .code) 0 done, q .0, q .1) (omega (arith, accepted))
+      (done, u .1, u .2, u .3)
+
+  pub drawn-steps : drawAnswer s seed span weights % 256 ≡ 0
+      → let r = drawAnswer s seed span weights in stepAnswer s (told (r / 256 % 256) (r / 65536 % 256) (r / 16777216) (drawValue s seed span weights value)) % 256 ≡ 0
+  unfolding drawAnswer drawValue stepAnswer
+  drawn-steps e =
+      let p = toldProfile span weights in
+      let w = parts-of e in
+      let q = of-image s seed p (w .0) in
+      let accepted = drawn-accepted (kernelOf s) seed p (rw (← q .1) (w .0)) in
+      rw (w .1, w .2, w .3, eq-eqb (found .code) 0 (w .0), q .0, q .1) (omega (arith, accepted))
 
   -- ## A refused draw changes nothing: its answer is the code alone, and the seed and the value are as they were
   pub draw-refused : drawAnswer s seed span weights % 256 ≢ 0
@@ -231,16 +241,10 @@ module _ (s : List ℕ) (seed span : ℕ) (weights : List ℕ) (value : ℕ) whe
       → let r = drawAnswer s seed span weights in let c = told (r / 256 % 256) (r / 65536 % 256) (r / 16777216) (drawValue s seed span weights value) in
       (drawStepAnswer s seed span weights ≡ r + 4294967296 * stepAnswer s c) × (drawStepImage s seed span weights ≡ stepImage s c)
   unfolding drawAnswer drawValue drawStepAnswer drawStepImage
-  draw-step-is e =
-      let p = toldProfile span weights in
-      let done : found .code ≡ 0 = sym code-of ∙ e in
-      let q = of-image s seed p done in
-      let made : drawnOf (kernelOf s) seed p .code ≡ 0 = rw (← q .1) done in
-      let small : (found .command .op < 256) × (found .command .a < 256) = rw (q .1) (drawn-small (kernelOf s) seed p (image-sound s (q .0)) made) in
-      let u = unpacked-draw found (code-small s seed p) (small .0) (small .1) in
-      rw (u .1, u .2, u .3, eq-eqb (found .code) 0 done) (refl, refl)
+  draw-step-is e = let w = parts-of e in rw (w .1, w .2, w .3, eq-eqb (found .code) 0 (w .0)) (refl, refl)
 
-  pub draw-step-refused : drawAnswer s seed span weights % 256 ≢ 0 → (drawStepAnswer s seed span weights ≡ drawAnswer s seed span weights) × (drawStepImage s seed span weights ≡ s)
+  pub draw-step-refused : drawAnswer s seed span weights % 256 ≢ 0
+      → (drawStepAnswer s seed span weights ≡ drawAnswer s seed span weights) × (drawStepImage s seed span weights ≡ s)
   unfolding drawAnswer drawStepAnswer drawStepImage
   draw-step-refused n =
       let other : found .code ≢ 0 = λ e. n (code-of ∙ e) in rw (ne-eqb (found .code) 0 other) (add-zero (packedDrawn found), refl)

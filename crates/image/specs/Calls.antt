@@ -83,7 +83,8 @@ drawValue s seed span weights value =
 -- answer + 4294967296 * the step's, which is 0 where there is none.
 unfoldable pub drawStepAnswer : List ℕ → ℕ → ℕ → List ℕ → ℕ
 drawStepAnswer s seed span weights =
-    let d = drawOn s seed (toldProfile span weights) in packedDrawn d + 4294967296 * cond (eqb (d .code) 0) (stepAnswer s (said (d .command))) 0
+    let d = drawOn s seed (toldProfile span weights) in
+    packedDrawn d + 4294967296 * cond (eqb (d .code) 0) (stepAnswer s (said (d .command))) 0
 
 -- The image that is left: the step's. (The seed and the value that are left are the draw's.)
 unfoldable pub drawStepImage : List ℕ → ℕ → ℕ → List ℕ → List ℕ

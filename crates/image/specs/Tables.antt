@@ -1,4 +1,5 @@
--- What the functions inside this crate leave, of bytes s that are read into tables which held k. The calls' own contracts (Calls) need none of it.
+-- What the functions inside this crate leave, of bytes s that are read into tables which held k.
+-- (The calls' own contracts, in Calls, need none of it.)
 use Prim.Native.Nat.{ℕ}
 use mathlib.Core.Bool.{cond}
 use mathlib.Core.List.{List}
@@ -24,7 +25,8 @@ kept s k a = cond (eqb (a .code) 0) (laid s k) s
 -- A draw with its step, of what is read: what is drawn and answered,
 abbrev pub drawnRead : List ℕ → ℕ → Profile → Carried
 drawnRead s seed p =
-    let d = drawnOf (kernelOf s) seed p in cond (formed s) (carriedOf d (answerTo (kernelOf s) d)) (carriedOf (refusedOf 1 seed) (unmoved 1 0))
+    let d = drawnOf (kernelOf s) seed p in
+    cond (formed s) (carriedOf d (answerTo (kernelOf s) d)) (carriedOf (refusedOf 1 seed) (unmoved 1 0))
 
 -- and the tables behind it.
 abbrev pub behindRead : List ℕ → Kernel → ℕ → Profile → Kernel

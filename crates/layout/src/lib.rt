@@ -1,7 +1,7 @@
 // The layout of an image: the tables of a state read off 512 bytes, and laid out in them. docs/IMAGE.md has it byte by byte, specs/Layout as
 // definitions. Bytes of every length get an answer: no public function has a `requires`.
 ghost use mathlib.Core.Path.{_≡_};
-ghost use mathlib.Core.List.{_++_, _∷_, []};
+ghost use mathlib.Core.List.{_++_};
 ghost use Prim.Native.Nat.{_+_, _≤_, _<_};
 ghost use lib.ListN.{length, take, drop};
 ghost use Rattle.rules.specs.Line.{one-if};

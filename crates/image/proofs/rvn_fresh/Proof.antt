@@ -1,7 +1,6 @@
 -- `rvn_fresh` meets its contract: each exit by the length. The tables that are laid out are those of the fresh machine. Assumes nothing.
 use borrow.Author.Needs.{needs}
 use borrow.Author.Tests.{eq-eqb, ne-eqb}
-use mathlib.Core.Path.{refl, _∙_}
 use lib.ListN.{length}
 use Rattle.kernel.specs.View.{encode}
 use Rattle.image.specs.Calls.{freshAnswer, freshImage}

@@ -23,7 +23,9 @@ returns c =
     let keeping = c .before .before in
     let stepping = keeping .before .before .before .before .before .before .before .before .before .before in
     let a = stepping .before .before .before .before .before .before .before .before .before .before .before .before .before .before .args in
-    let w = step-ends (a .image .now) _ (told (a .op) (a .a) (a .b) (a .value)) (stepping .before .command .ensures) (stepping .step-on .ensures .0) (stepping .step-on .ensures .1) in
+    let fits = stepping .before .command .ensures in
+    let left = stepping .step-on .ensures in
+    let w = step-ends (a .image .now) _ (told (a .op) (a .a) (a .b) (a .value)) fits (left .0) (left .1) in
     (keeping .keep .ensures .0 ∙ w .0, keeping .keep .ensures .1 ∙ w .1)
 
 pub rvn-step-spec : {M : Type 1} → statement M

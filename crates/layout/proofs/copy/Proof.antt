@@ -8,8 +8,6 @@ use Rattle.layout.specs.Layout.{part}
 use Rattle.layout.proofs.Copying.{turn, whole, part-size, part-at}
 use Rattle.layout.proofs.copy.Statement.{statement}
 use Rattle.layout.proofs.copy.Tie as tie
-use Rattle.layout.proofs.copy.Reads as reads
-use Rattle.layout.proofs.copy.Lts as lts
 
 abbrev Inv-loop : tie.InvT-loop
 Inv-loop s at n table₀ i₀ table i = (i ≤ n) × (length table ≡ n) × (take i table ≡ take i (part n at s))
@@ -17,31 +15,24 @@ Inv-loop s at n table₀ i₀ table i = (i ≤ n) × (length table ≡ n) × (ta
 abbrev μ-loop : tie.MeasureT-loop
 μ-loop s at n table₀ i₀ table i = n - i
 
--- src/lib.rt:59:5
 loop-holds : tie.Need-loop-holds Inv-loop μ-loop
 loop-holds c = search needs
 
--- src/lib.rt:60:22
 add-table : tie.Need-add-table Inv-loop μ-loop
 add-table c = search needs
 
--- src/lib.rt:60:20
 shared-slice-read-table : tie.Need-shared-slice-read-table Inv-loop μ-loop
 shared-slice-read-table c = search needs
 
--- src/lib.rt:60:9
 slice-write-table : tie.Need-slice-write-table Inv-loop μ-loop
 slice-write-table c = search needs
 
--- src/lib.rt:61:9
 add-i : tie.Need-add-i Inv-loop μ-loop
 add-i c = search needs
 
--- src/lib.rt:59:5
 loop-less : tie.Need-loop-less Inv-loop μ-loop
 loop-less c = search needs
 
--- src/lib.rt:59:5
 loop-again : tie.Need-loop-again Inv-loop μ-loop
 loop-again c =
     let l = c .before .before .loop in
@@ -49,13 +40,12 @@ loop-again c =
     let a = start .args in
     let n = a .n in
     let size = part-size n (a .at) (a .s .now) (start .pre .0) in
-    (omega arith, simp length-set (l .inv .1), turn (l .table) (part n (a .at) (a .s .now)) (l .i) _ (omega arith) (omega arith) (sym (part-at n (a .at) (a .s .now) (l .i) (omega arith))) (l .inv .2))
+    let byte = sym (part-at n (a .at) (a .s .now) (l .i) (omega arith)) in
+    (omega arith, simp length-set (l .inv .1), turn (l .table) (part n (a .at) (a .s .now)) (l .i) _ (omega arith) (omega arith) byte (l .inv .2))
 
--- src/lib.rt:53:1
 same-length : tie.Need-same-length Inv-loop μ-loop
 same-length c = search needs
 
--- src/lib.rt:53:1
 returns : tie.Need-returns Inv-loop μ-loop
 returns c =
     let l = c .before .loop in

@@ -8,33 +8,22 @@ use lib.ListN.{length}
 use Rattle.layout.specs.Layout.{bytesOf, spare, imageOf}
 use Rattle.layout.proofs.lay.Statement.{statement}
 use Rattle.layout.proofs.lay.Tie as tie
-use Rattle.layout.proofs.lay.Reads as reads
-use Rattle.layout.proofs.lay.Lts as lts
-use Rattle.layout.proofs.put_head.Reads as put-head-reads
-use Rattle.layout.proofs.put_tables.Reads as put-tables-reads
-use Rattle.layout.proofs.put_times.Reads as put-times-reads
 
--- src/lib.rt:205:9
 returns : tie.Need-returns
 returns c = rw (ne-eqb (length (c .before .before .args .image .now)) 512 (c .if1 .taken))
 
--- src/lib.rt:207:5
 put-head-requires : tie.Need-put-head-requires
 put-head-requires c κs = search needs
 
--- src/lib.rt:208:5
 put-tables-requires : tie.Need-put-tables-requires
 put-tables-requires c κs = search needs
 
--- src/lib.rt:209:5
 put-times-requires : tie.Need-put-times-requires
 put-times-requires c κs = search needs
 
--- src/lib.rt:189:1
 same-length : tie.Need-same-length
 same-length c = search needs
 
--- src/lib.rt:189:1
 returns-2 : tie.Need-returns-2
 unfolding imageOf
 returns-2 c =

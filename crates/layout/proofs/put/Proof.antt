@@ -8,8 +8,6 @@ use lib.ListN.{length, take, length-set}
 use Rattle.layout.proofs.Copying.{start, grow, end}
 use Rattle.layout.proofs.put.Statement.{statement}
 use Rattle.layout.proofs.put.Tie as tie
-use Rattle.layout.proofs.put.Reads as reads
-use Rattle.layout.proofs.put.Lts as lts
 
 abbrev Inv-loop : tie.InvT-loop
 Inv-loop s₀ at n v i₀ s i = (i ≤ n) × (length s ≡ 512) × (take (at + i) s ≡ take at s₀ ++ take i v)
@@ -17,42 +15,33 @@ Inv-loop s₀ at n v i₀ s i = (i ≤ n) × (length s ≡ 512) × (take (at + i
 abbrev μ-loop : tie.MeasureT-loop
 μ-loop s₀ at n v i₀ s i = n - i
 
--- src/lib.rt:127:5
 loop-holds : tie.Need-loop-holds Inv-loop μ-loop
 loop-holds c = let a = c .args in (omega arith, search needs, start (a .s .now) (a .v .now) (a .at))
 
--- src/lib.rt:128:21
 shared-slice-read-s : tie.Need-shared-slice-read-s Inv-loop μ-loop
 shared-slice-read-s c = search needs
 
--- src/lib.rt:128:11
 add-s : tie.Need-add-s Inv-loop μ-loop
 add-s c = search needs
 
--- src/lib.rt:128:9
 slice-write-s : tie.Need-slice-write-s Inv-loop μ-loop
 slice-write-s c = search needs
 
--- src/lib.rt:129:9
 add-i : tie.Need-add-i Inv-loop μ-loop
 add-i c = search needs
 
--- src/lib.rt:127:5
 loop-less : tie.Need-loop-less Inv-loop μ-loop
 loop-less c = search needs
 
--- src/lib.rt:127:5
 loop-again : tie.Need-loop-again Inv-loop μ-loop
 loop-again c =
     let l = c .before .before .loop in
     let a = c .before .before .before .args in
     (omega arith, simp length-set (l .inv .1), grow (l .s) (take (a .at) (a .s .now)) (a .v .now) (a .at) (l .i) (omega arith) (omega arith) (l .inv .2))
 
--- src/lib.rt:121:1
 same-length : tie.Need-same-length Inv-loop μ-loop
 same-length c = search needs
 
--- src/lib.rt:121:1
 returns : tie.Need-returns Inv-loop μ-loop
 returns c =
     let l = c .before .loop in

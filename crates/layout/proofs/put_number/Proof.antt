@@ -8,9 +8,6 @@ use lib.ListN.{length, take, length-set}
 use Rattle.layout.proofs.Copying.{start, grow, end}
 use Rattle.layout.proofs.put_number.Statement.{statement}
 use Rattle.layout.proofs.put_number.Tie as tie
-use Rattle.layout.proofs.put_number.Reads as reads
-use Rattle.layout.proofs.put_number.Lts as lts
-use Rattle.record.proofs.number_bytes.Reads as number-bytes-reads
 
 abbrev Inv-loop : tie.InvT-loop
 Inv-loop s₀ at x bytes i₀ s i = (i ≤ 8) × (length s ≡ 512) × (take (at + i) s ≡ take at s₀ ++ take i bytes)
@@ -18,47 +15,38 @@ Inv-loop s₀ at x bytes i₀ s i = (i ≤ 8) × (length s ≡ 512) × (take (at
 abbrev μ-loop : tie.MeasureT-loop
 μ-loop s₀ at x bytes i₀ s i = 8 - i
 
--- src/lib.rt:138:17
 number-bytes-requires : tie.Need-number-bytes-requires Inv-loop μ-loop
 number-bytes-requires c κs = search needs
 
--- src/lib.rt:140:5
 loop-holds : tie.Need-loop-holds Inv-loop μ-loop
 loop-holds c = let a = c .before .before .args in (omega arith, search needs, start (a .s .now) (c .number-bytes .result) (a .at))
 
--- src/lib.rt:141:21
 array-read-s : tie.Need-array-read-s Inv-loop μ-loop
 array-read-s c = search needs
 
--- src/lib.rt:141:11
 add-s : tie.Need-add-s Inv-loop μ-loop
 add-s c = search needs
 
--- src/lib.rt:141:9
 slice-write-s : tie.Need-slice-write-s Inv-loop μ-loop
 slice-write-s c = search needs
 
--- src/lib.rt:142:9
 add-i : tie.Need-add-i Inv-loop μ-loop
 add-i c = search needs
 
--- src/lib.rt:140:5
 loop-less : tie.Need-loop-less Inv-loop μ-loop
 loop-less c = search needs
 
--- src/lib.rt:140:5
 loop-again : tie.Need-loop-again Inv-loop μ-loop
 loop-again c =
     let l = c .before .loop in
     let made = c .before .before in
     let a = made .before .before .args in
-    (omega arith, simp length-set (l .inv .1), grow (l .s) (take (a .at) (a .s .now)) (made .number-bytes .result) (a .at) (l .i) (omega arith) (omega arith) (l .inv .2))
+    let bytes = made .number-bytes .result in
+    (omega arith, simp length-set (l .inv .1), grow (l .s) (take (a .at) (a .s .now)) bytes (a .at) (l .i) (omega arith) (omega arith) (l .inv .2))
 
--- src/lib.rt:134:1
 same-length : tie.Need-same-length Inv-loop μ-loop
 same-length c = search needs
 
--- src/lib.rt:134:1
 returns : tie.Need-returns Inv-loop μ-loop
 returns c =
     let l = c .before .loop in

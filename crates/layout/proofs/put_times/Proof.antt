@@ -9,9 +9,6 @@ use Rattle.layout.specs.Layout.{bytesOf}
 use Rattle.layout.proofs.Numbers.{start-times, grow-times, end-times}
 use Rattle.layout.proofs.put_times.Statement.{statement}
 use Rattle.layout.proofs.put_times.Tie as tie
-use Rattle.layout.proofs.put_times.Reads as reads
-use Rattle.layout.proofs.put_times.Lts as lts
-use Rattle.layout.proofs.put_number.Reads as put-number-reads
 
 abbrev Inv-loop : tie.InvT-loop
 Inv-loop s₀ until times i₀ s i = (i ≤ 32) × (length s ≡ 512) × (take (256 + 8 * i) s ≡ take 256 s₀ ++ bytesOf (take i times))
@@ -19,57 +16,48 @@ Inv-loop s₀ until times i₀ s i = (i ≤ 32) × (length s ≡ 512) × (take (
 abbrev μ-loop : tie.MeasureT-loop
 μ-loop s₀ until times i₀ s i = 32 - i
 
--- src/lib.rt:153:5
 loop-holds : tie.Need-loop-holds Inv-loop μ-loop
 loop-holds c = let a = c .before .before .args in (omega arith, c .before .before .pre, start-times (a .s .now) (a .until .now) 256)
 
--- src/lib.rt:154:29
 mul-put-number : tie.Need-mul-put-number Inv-loop μ-loop
 mul-put-number c = search needs
 
--- src/lib.rt:154:23
 add-put-number : tie.Need-add-put-number Inv-loop μ-loop
 add-put-number c = search needs
 
--- src/lib.rt:154:36
 mul-put-number-2 : tie.Need-mul-put-number-2 Inv-loop μ-loop
 mul-put-number-2 c = search needs
 
--- src/lib.rt:154:36
 shared-slice-read-put-number : tie.Need-shared-slice-read-put-number Inv-loop μ-loop
 shared-slice-read-put-number c = search needs
 
--- src/lib.rt:154:9
 put-number-requires : tie.Need-put-number-requires Inv-loop μ-loop
 put-number-requires c κs = search needs
 
--- src/lib.rt:155:9
 add-i : tie.Need-add-i Inv-loop μ-loop
 add-i c = search needs
 
--- src/lib.rt:153:5
 loop-less : tie.Need-loop-less Inv-loop μ-loop
 loop-less c = search needs
 
--- src/lib.rt:153:5
 loop-again : tie.Need-loop-again Inv-loop μ-loop
 loop-again c =
     let put = c .before .before in
     let test = put .before .before .before in
     let l = test .before .loop in
     let a = test .before .before .before .before .args in
-    (omega arith, put .put-number .ensures .0, grow-times (l .s) (put .put-number .last .0) (take 256 (a .s .now)) (a .until .now) 256 (l .i) (omega arith) (l .inv .2) (put .put-number .ensures .1))
+    let w = put .put-number .ensures in
+    (omega arith, w .0, grow-times (l .s) (put .put-number .last .0) (take 256 (a .s .now)) (a .until .now) 256 (l .i) (omega arith) (l .inv .2) (w .1))
 
--- src/lib.rt:147:1
 same-length : tie.Need-same-length Inv-loop μ-loop
 same-length c = search needs
 
--- src/lib.rt:147:1
 returns : tie.Need-returns Inv-loop μ-loop
 returns c =
     let l = c .before .loop in
     let a = c .before .before .before .before .args in
-    (l .inv .1, end-times (l .s) (take 256 (a .s .now)) (a .until .now) 256 (l .i) 32 (omega arith) (c .before .before .times .given .0) (l .inv .1) (l .inv .2))
+    let size = c .before .before .times .given .0 in
+    (l .inv .1, end-times (l .s) (take 256 (a .s .now)) (a .until .now) 256 (l .i) 32 (omega arith) size (l .inv .1) (l .inv .2))
 
 pub put-times-spec : {M : Type 1} → statement M
 put-times-spec =

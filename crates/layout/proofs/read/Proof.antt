@@ -2,7 +2,7 @@
 use borrow.Author.Needs.{needs}
 use borrow.Author.Tests.{eq-eqb, ne-eqb, not-true, not-false}
 use mathlib.Core.Path.{_≡_, refl, sym, _∙_}
-use mathlib.Core.Bool.{true, false, _&&_, and-false}
+use mathlib.Core.Bool.{true, false, and-false}
 use lib.Dec.{eqb}
 use lib.ListN.{length}
 use Rattle.layout.specs.Layout.{kernelOf, clean, formed}
@@ -72,7 +72,8 @@ returns-3 c =
     let test = clock .before in
     let length-test = test .before .before in
     let s = length-test .before .before .args .s .now in
-    let e : formed s ≡ true = rw (eq-eqb (length s) 512 (length-test .if1 .left)) (sym (test .before .is-clean .ensures) ∙ not-false _ (test .if2 .left)) in (
+    let cleaned : clean s ≡ true = sym (test .before .is-clean .ensures) ∙ not-false _ (test .if2 .left) in
+    let e : formed s ≡ true = rw (eq-eqb (length s) 512 (length-test .if1 .left)) cleaned in (
       sym e,
       rw e
           (made (base .get32 .ensures) (ready .get322 .ensures) (delayed .get323 .ensures) (held .get324 .ensures) (way .get325 .ensures) (c .get-times .ensures)
