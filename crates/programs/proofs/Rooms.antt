@@ -32,3 +32,10 @@ put-front out left text at e a o =
     let n : length left ≡ length out = ap length e ∙ length-sets out 0 text in
     let s : sets out 0 text ≡ text ++ drop (0 + length text) out = sets-eq text out 0 (omega (arith, o, a, n)) in
     (a, ap (λ (k : ℕ). take k left) a ∙ ap (λ (l : List ℕ). take (length text) l) (e ∙ s) ∙ take-front text (drop (0 + length text) out))
+
+-- the same of a text that is put at place 0 where a buffer has so much room, and else not at all
+pub put-roomy : (room : ℕ) (text out left : List ℕ) (at : ℕ) → room ≤ length out → at ≡ cond (leb (0 + room) (length out)) (0 + length text) 0
+    → left ≡ cond (leb (0 + room) (length out)) (sets out 0 text) out → at ≤ length left → Put at left text
+put-roomy room text out left at o a l n =
+    let e = a ∙ with-room (0 + room) out (0 + length text) 0 (omega (arith, o)) in
+    put-front out left text at (l ∙ with-room (0 + room) out (sets out 0 text) out (omega (arith, o))) (omega (arith, e)) n
