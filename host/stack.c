@@ -22,7 +22,7 @@ enum call { NOTHING, STEP, FRESH, LEFT, DRAW, DRAW_STEP, JUDGE, CALLS };
 
 /* The names, and the bounds that the documents state. */
 static const char *const names[CALLS] = {"", "rvn_step", "rvn_fresh", "rvn_wakes_left", "rvn_draw", "rvn_draw_step", "rvn_judge"};
-static const size_t bounds[CALLS] = {0, 8192, 256, 4096, 2048, 8192, 16384};
+static const size_t bounds[CALLS] = {0, 8192, 256, 4096, 2048, 2048, 16384};
 
 static uint8_t stack[STACK] __attribute__((aligned(16)));
 static ucontext_t host, called;
