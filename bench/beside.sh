@@ -1,4 +1,4 @@
-# A program of the bench beside the same work in C. bench/walk/run, bench/draw/run and bench/judge/run read this file, in the repository's root.
+# What the benches share. Each bench/NAME/run reads this file, in the repository's root.
 out=target/bench
 mkdir -p "$out"
 me=$0
@@ -19,6 +19,14 @@ proved() {
     rt check "$1" >"$out/$1.log" 2>&1 || { tail -n 5 "$out/$1.log" >&2; echo "$me: $1 was not built; all that rt said is in $out/$1.log" >&2; exit 1; }
 }
 
+# archive LIBRARY: target/staticlib/libLIBRARY.a, built where it is missing or older than a source.
+archive() {
+    made=target/staticlib/lib$1.a
+    if [ -e "$made" ] && [ -z "$(find crates crates.txt -newer "$made" -type f \( -name '*.rt' -o -name '*.antt' -o -name crates.txt \) | head -n 1)" ]; then return; fi
+    rt staticlib "$1" >"$out/staticlib.log" 2>&1 ||
+        { tail -n 5 "$out/staticlib.log" >&2; echo "$me: $1 was not built; all that rt said is in $out/staticlib.log" >&2; exit 1; }
+}
+
 # in_c NAME SOURCE: builds a source in C as target/bench/c_NAME.
 in_c() {
     gcc -O2 -std=gnu99 -Wall -Wextra -Werror -o "$out/c_$1" "$2"
@@ -31,9 +39,12 @@ same() {
     cmp "$out/rattle.out" "$out/c.out"
 }
 
-# instructions PROGRAM UNIT MANY SHORT LONG: the instructions for one UNIT, where valgrind is there: what LONG takes more than SHORT, which is LONG without its last MANY.
+# counts: whether instructions are counted. They are where valgrind is there, and not where COUNT=no asks for a short run.
+counts() { [ "${COUNT:-yes}" != no ] && command -v valgrind >/dev/null; }
+
+# instructions PROGRAM UNIT MANY SHORT LONG: the instructions for one UNIT: what LONG takes more than SHORT, which is LONG without its last MANY.
 instructions() {
-    if command -v valgrind >/dev/null; then
+    if counts; then
         for program in "$out/c_$1" "target/bin/$1"; do
             echo "$program: $((($(counted "$program" "$5") - $(counted "$program" "$4")) / $3)) instructions a $2"
         done
