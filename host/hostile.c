@@ -1,7 +1,7 @@
 /*
  * A hostile host: the table of kernel_cases, which is its argument, on images; then a million calls in all, with images of every length 0..1025,
  * random bytes, single spoilt bytes of good images, states that no command leads to, started and not, null where the length is 0, operands of
- * every width, seeds and profiles good and bad, at every entry point. Each answer and every byte afterwards are held to judge.h; the bytes stand
+ * every width, seeds and profiles good and bad, at every entry point. Each answer and every byte afterwards are held to reading.h; the bytes stand
  * between guard bytes, at any alignment, and what else is lent between guards too. Whatever a call may not write is lent read-only: all of a
  * refused call's, and an image that is only asked or drawn for. The seed is fixed, so that a run that fails once fails again. Prints one line of
  * counts by code.
@@ -9,7 +9,7 @@
 #include "watched.h"
 #include <inttypes.h>
 #include "chance.h"
-#include "judge.h"
+#include "reading.h"
 #include "rvn_image.h"
 
 #define CALLS 1000000
@@ -339,12 +339,12 @@ static void set_cell(uint8_t *image, const char *table, uint64_t i, uint64_t val
             image[(uint64_t)tables[k].at + i] = (uint8_t)value;
 }
 
-/* A state of the table, at every entry point. What its line says of it, judge.h says too. */
+/* A state of the table, at every entry point. What its line says of it, reading.h says too. */
 static void try_state(const uint8_t *bytes, int is_sound, const char *line)
 {
     struct machine m;
     if (read_image(&m, bytes, 512) != is_sound) {
-        printf("judge.h says otherwise of the state of: %s", line);
+        printf("reading.h says otherwise of the state of: %s", line);
         exit(1);
     }
     is_sound ? sound++ : spoilt++;

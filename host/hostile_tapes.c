@@ -1,14 +1,14 @@
 /*
  * A hostile host of the judge: tapes of every length 0..4113, of random bytes and recorded from an image with the other library, whole, cut,
  * continued, and with bytes, answers and records spoilt; null where the length or the count is 0; other counts of numbers than four. Each
- * answer and every number and byte afterwards are held to a reading of its own, over judge.h's machine; the bytes stand between guard bytes, at
+ * answer and every number and byte afterwards are held to a reading of its own, over reading.h's machine; the bytes stand between guard bytes, at
  * any alignment, and the numbers between guards too. The tape is lent read-only, and so are the numbers where none is to be written. The seed is
  * fixed, so that a run that fails once fails again. Prints one line of counts.
  */
 #include "watched.h"
 #include <inttypes.h>
 #include "chance.h"
-#include "judge.h"
+#include "reading.h"
 #include "rvn_image.h"
 #include "rvn_judge.h"
 

@@ -136,7 +136,7 @@ uint64_t rvn_draw_step(uint8_t *image, size_t length, uint32_t *seed, uint64_t s
 #define RVN_COUNT(answer) (((answer) >> 8) & 255u)     /* of rvn_wakes_left */
 #define RVN_OP(answer) (((answer) >> 8) & 255u)        /* of rvn_draw: the op, 0 where it is refused */
 #define RVN_A(answer) (((answer) >> 16) & 255u)        /* of rvn_draw: the first operand */
-#define RVN_B(answer) ((answer) >> 24)                 /* of rvn_draw: the second operand */
+#define RVN_B(answer) (((answer) >> 24) & 255u)        /* of rvn_draw: the second operand */
 
 #ifdef __cplusplus
 }

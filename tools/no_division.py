@@ -18,8 +18,9 @@ import sys
 from braces import closing
 
 ROOT = pathlib.Path(__file__).resolve().parent.parent
-# From a number to its bytes, and whether there is room for them; in judging a record's number is found.
-PRINTING = ('decimal', 'text', 'session', 'judging', 'report', 'programs', 'walk', 'draw', 'judge')
+# From a number to its bytes, and whether there is room for them; in judge_record a record's number is found.
+PRINTING = ('decimal', 'decimal_read', 'decimal_print', 'text', 'text_word', 'text_command', 'text_first', 'text_split', 'text_print', 'session', 'session_walk',
+            'session_stage', 'session_draw', 'judge_record', 'judging', 'report', 'programs_hint', 'programs_walk', 'programs_draw', 'programs_judge', 'programs', 'walk', 'draw', 'judge')
 
 
 def code(path):
@@ -52,7 +53,7 @@ def sources():
 # A quotient by a constant is the upper half of a product, so a multiplication that keeps that half is looked for too.
 DIVISION = re.compile(r'i?div[bwlq]?$|mul[bwlq]?$|mulx')
 # Document 01 draws by remainders, so draw divides where it draws: in these functions, or in those that the compiler has put them into.
-DRAWS = re.compile(r'generator::|session::draw::draw_|programs::draw::|rvn_program_draw$')
+DRAWS = re.compile(r'generator::|session_draw::draw_|programs_draw::|rvn_program_draw$')
 
 
 def divisions(program):

@@ -7,7 +7,7 @@
 #include "kernel.h"
 #include "../../host/rvn_image.h"
 
-/* crate bench_step; a slice is a pointer and a length */
+/* crate kernel_bench; a slice is a pointer and a length */
 uint64_t bench_run(const uint8_t *ops, size_t, const uint8_t *a, size_t, const uint8_t *b, size_t, const uint64_t *values, size_t, uint64_t sum);
 
 static uint64_t mixed(uint64_t sum, answer r) {

@@ -1,37 +1,39 @@
 #!/usr/bin/env python3
-"""Prints what generator_cases is to print, from document 01 alone: python3 expected.py > stdout"""
+"""Prints what generator_cases is to print, by the reading of document 01 in tools/: python3 expected.py > stdout"""
+import os
+import sys
+
+sys.path.insert(0, os.path.join(os.path.dirname(os.path.abspath(__file__)), '..', '..', 'tools'))
+from document01 import Machine, drawn
 
 
-def draw(x):
-    x ^= x << 13 & 0xFFFFFFFF
-    x ^= x >> 17
-    return x ^ x << 5 & 0xFFFFFFFF
+# a table, a place and what is put there: idle has a base, a task stands twice, a task is above 31, an object is held that is not declared, a way is left
+# where nothing is held, a waiter is ready
+FORGED = ('base', 0, 1), ('ready', 1, 2), ('ready', 3, 200), ('held', 2, 7), ('way', 1, 1), ('waiter', 1, 1)
 
 
-def answer(state, seed, span, delay, wake):
-    """Code, op, a, b, value, seed left. Task 2 of base 5 runs, holds nothing, and the one object has ceiling 4: so delay, wake and advance are legal."""
-    if state > 1:
-        return 1, 0, 0, 0, 0, seed
-    if seed == 0:
-        return 17, 0, 0, 0, 0, seed
-    if not 1 <= span <= 1000000 or delay > 100 or wake == 0:
-        return 18, 0, 0, 0, 0, seed
-    if state == 0:
-        return 2, 0, 0, 0, 0, seed
-    d1 = draw(seed)
-    d2 = draw(d1)
-    at = d1 % (delay + wake + 10)
-    if at < delay:
-        return 0, 4, 0, 0, d2 % (span + 1), draw(d2)
-    if at < delay + wake:
-        return 0, 5, 0, 0, 0, draw(d2)
-    return 0, 6, 0, 0, 1 + d2 % span, draw(d2)
+def states():
+    """0 is not started, 1 is; the others are forged."""
+    for n in range(8):
+        m = Machine()
+        for command in (1, 1, 3, 0), (1, 2, 5, 0), (1, 3, 3, 0), (2, 1, 4, 0):
+            m.step(*command)
+        if n:
+            m.step(3, 0, 0, 0)
+        if n > 1:
+            m.put(*FORGED[n - 2])
+        yield m
 
 
-print('state seed span delay wake code op a b value left')
-for state in range(8):
-    for seed in 0, 1:
-        for span in 0, 1, 1000000, 1000001:
-            for delay in 100, 101:
-                for wake in 0, 1:
-                    print(state, seed, span, delay, wake, *answer(state, seed, span, delay, wake))
+def main():
+    print('state seed span delay wake code op a b value left')
+    for n, m in enumerate(states()):
+        for seed in 0, 1:
+            for span in 0, 1, 1000000, 1000001:
+                for delay in 100, 101:
+                    for wake in 0, 1:
+                        code, command, left = drawn(m, seed, span, (delay, wake, 10, 10, 10, 10, 10, 10))
+                        print(n, seed, span, delay, wake, code, *command, left)
+
+
+main()

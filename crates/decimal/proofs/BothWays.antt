@@ -131,7 +131,9 @@ places (suc f) (suc g) n hf hg = go (ltb n 10) refl (places f g (n / 10) (tenth-
   where
     go : (b : Bool) → ltb n 10 ≡ b → decimal-in (suc f) (n / 10) ≡ decimal-in (suc g) (n / 10) → decimal-in (suc (suc f)) n ≡ decimal-in (suc (suc g)) n
     go true t e = let h : n < 10 = ltb-true n 10 t in small-decimal (suc f) n h ∙ sym (small-decimal (suc g) n h)
-    go false t e = let h : 10 ≤ n = ltb-false n 10 t in large-decimal (suc f) n h ∙ ap (λ (l : List ℕ). l ++ ((48 + n % 10) ∷ [])) e ∙ sym (large-decimal (suc g) n h)
+    go false t e =
+        let h : 10 ≤ n = ltb-false n 10 t in
+        large-decimal (suc f) n h ∙ ap (λ (l : List ℕ). l ++ ((48 + n % 10) ∷ [])) e ∙ sym (large-decimal (suc g) n h)
 
 -- ---- what reads as n
 
@@ -142,13 +144,15 @@ module _ (w : List ℕ) (k : ℕ) (h : length w ≡ suc k) where
 
   rest-digits : every digit w ≡ true → (every digit (take k w) ≡ true) × (digit (getD w k 0) ≡ true)
   rest-digits e =
-      let p = both-true (every digit (take k w)) (every digit (getD w k 0 ∷ [])) (sym (every-append digit (take k w) (getD w k 0 ∷ [])) ∙ ap (every digit) (sym last-off) ∙ e) in
+      let p = both-true (every digit (take k w)) (every digit (getD w k 0 ∷ []))
+      (sym (every-append digit (take k w) (getD w k 0 ∷ [])) ∙ ap (every digit) (sym last-off) ∙ e) in
       (p .0, both-true (digit (getD w k 0)) true (p .1) .0)
 
   value-off : value-from 0 w ≡ value-from 0 (take k w) * 10 + (getD w k 0 - 48)
   value-off = ap (value-from 0) last-off ∙ value-last (take k w) (getD w k 0)
 
-one-digit-back : (w : List ℕ) → length w ≡ 1 → every digit w ≡ true → (decimal-in 1 (value-from 0 w) ≡ w) × (value-from 0 w + 48 ≡ getD w 0 0) × (value-from 0 w < 10 ^ 1)
+one-digit-back : (w : List ℕ) → length w ≡ 1 → every digit w ≡ true
+    → (decimal-in 1 (value-from 0 w) ≡ w) × (value-from 0 w + 48 ≡ getD w 0 0) × (value-from 0 w < 10 ^ 1)
 unfolding value-from
 one-digit-back [] h e = absurd (omega arith)
 one-digit-back (b ∷ []) h e =
@@ -205,11 +209,11 @@ pub record Number (w : List ℕ) (most : ℕ) : Type 0 where
   pub bound : value-from 0 w ≤ most
   pub value : number-of w most .value ≡ value-from 0 w
 
-pub number-parts : (w : List ℕ) (most : ℕ) → number-of w most .fine ≡ true → Number w most
+pub number-parts : (w : List ℕ) (most : ℕ) → number-of w most .valid ≡ true → Number w most
 unfolding number-of
 number-parts w most = go (shortest w) (every digit w) (leb (value-from 0 w) most) refl refl refl
   where
-    go : (s d b : Bool) → shortest w ≡ s → every digit w ≡ d → leb (value-from 0 w) most ≡ b → number-of w most .fine ≡ true → Number w most
+    go : (s d b : Bool) → shortest w ≡ s → every digit w ≡ d → leb (value-from 0 w) most ≡ b → number-of w most .valid ≡ true → Number w most
     go true true true es ed eb e = record { short = es; digits = ed; bound = leb-true (value-from 0 w) most eb; value = rw (es, ed, eb) }
     go true true false es ed eb e = absurd (false≢true (rw (es, ed, eb) at e))
     go true false b es ed eb e = absurd (false≢true (rw (es, ed) at e))
@@ -219,18 +223,19 @@ pub number-bound : (w : List ℕ) (most : ℕ) → number-of w most .value ≤ m
 unfolding number-of
 number-bound w most = go (shortest w && every digit w) (leb (value-from 0 w) most) refl
   where
-    go : (t b : Bool) → b ≡ leb (value-from 0 w) most → cond {A = Reading} (t && b) (record { fine = true; value = value-from 0 w }) (record { fine = false; value = 0 }) .value ≤ most
+    go : (t b : Bool) → b ≡ leb (value-from 0 w) most
+        → cond {A = Reading} (t && b) (record { valid = true; value = value-from 0 w }) (record { valid = false; value = 0 }) .value ≤ most
     go true true e = leb-true (value-from 0 w) most (sym e)
     go true false e = omega arith
     go false b e = omega arith
 
 -- ---- both ways
 
-pub reads-back : (n most : ℕ) → n ≤ most → n < 10 ^ 20 → number-of (decimal n) most ≡ record { fine = true; value = n }
+pub reads-back : (n most : ℕ) → n ≤ most → n < 10 ^ 20 → number-of (decimal n) most ≡ record { valid = true; value = n }
 unfolding decimal number-of
 reads-back n most h g = rw (decimal-shortest 19 n g, digits-only 20 n, reads-as 20 n g, le-leb n most h)
 
-pub prints-back : (w : List ℕ) (most : ℕ) → most < 10 ^ 20 → number-of w most .fine ≡ true → decimal (number-of w most .value) ≡ w
+pub prints-back : (w : List ℕ) (most : ℕ) → most < 10 ^ 20 → number-of w most .valid ≡ true → decimal (number-of w most .value) ≡ w
 unfolding decimal
 prints-back w most h e =
     let p = number-parts w most e in

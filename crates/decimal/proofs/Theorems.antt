@@ -10,11 +10,11 @@ use Rattle.decimal.specs.Decimal.{number-of, decimal}
 use Rattle.decimal.proofs.BothWays.{reads-back, prints-back}
 
 -- Reading back a printed decimal gives the number. (Rules out a printer that drops, swaps or adds a digit, or pads with zeros.)
-pub printed-reads : (n most : ℕ) → n ≤ most → n < 2 ^ 64 → number-of (decimal n) most ≡ record { fine = true; value = n }
+pub printed-reads : (n most : ℕ) → n ≤ most → n < 2 ^ 64 → number-of (decimal n) most ≡ record { valid = true; value = n }
 printed-reads n most h g = reads-back n most h (omega arith)
 
 -- Printing a read one gives the text. (Rules out a reader that takes "007", "+7" or "" for a number: their print is another text.)
-pub read-prints : (w : List ℕ) (most : ℕ) → most < 2 ^ 64 → number-of w most .fine ≡ true → decimal (number-of w most .value) ≡ w
+pub read-prints : (w : List ℕ) (most : ℕ) → most < 2 ^ 64 → number-of w most .valid ≡ true → decimal (number-of w most .value) ≡ w
 read-prints w most h e = prints-back w most (omega arith) e
 
 -- No two numbers are printed as one text. (That a reader answers at all, and within its bound, is its contract.)

@@ -20,12 +20,13 @@ unfoldable pub value-from : ℕ → List ℕ → ℕ
 value-from n [] = n
 value-from n (b ∷ l) = value-from (n * 10 + (b - 48)) l
 
--- What a word reads as, of numbers up to `most`: an unsigned decimal without needless zeros. Any other word is none, and has 0.
+-- What a word reads as, of numbers up to `most`: an unsigned decimal without needless zeros. Any other word is none,
+-- and has 0.
 unfoldable pub number-of : List ℕ → ℕ → Reading
 number-of w most =
     cond (shortest w && every digit w && leb (value-from 0 w) most)
-    (record { fine = true; value = value-from 0 w })
-    (record { fine = false; value = 0 })
+    (record { valid = true; value = value-from 0 w })
+    (record { valid = false; value = 0 })
 
 -- The decimal of n: that of its tenth, if n is above 9, then its last digit. It has at most `most` digits.
 unfoldable pub decimal-in : ℕ → ℕ → List ℕ

@@ -1,4 +1,4 @@
 // The program draw, over standard input.
 fn main() {
-    programs::draw::run(libc::STDIN_FILENO);
+    programs_draw::run(libc::STDIN_FILENO);
 }

@@ -1,5 +1,4 @@
-pub mod Loops
-pub mod Tied
 pub mod Shipped
-pub mod Lent
+pub mod Stream
+pub mod Ways
 pub mod Single

@@ -19,18 +19,20 @@ use Rattle.rules.proofs.Sounds.{Sound, tests-sound}
 use Rattle.rules.proofs.Step.{Step, kept, carried, step, moved-started, run-sound, fresh-sound}
 use Rattle.rules.proofs.Walk.{set-up}
 use Rattle.kernel.specs.declared.Kernel.{Kernel}
-use Rattle.checks.specs.declared.Command.{Command}
+use Rattle.kernel_checks.specs.declared.Command.{Command}
 use Rattle.kernel.specs.View.{view, encode}
-use Rattle.kernel.specs.Public.{isSound, stepOf, stepped, said, runningOf}
+use Rattle.kernel.specs.Public.{isSound, stepOf, stepped, to-rules, runningOf}
 use Rattle.kernel.proofs.Round.{view-encode}
 use Rattle.kernel.proofs.Written.{encode-sound, stands, step-sound}
 use Rattle.generator.specs.declared.Profile.{Profile}
 use Rattle.generator.specs.declared.Drawn.{Drawn}
-use Rattle.draws.specs.Xorshift.{draw}
-use Rattle.draws.specs.Draw as draws
-use Rattle.draws.specs.Draw.{good-profile, chosen, draw-refusal, drawn}
-use Rattle.generator.specs.Public.{profileOf, toldDrawn, refusedOf, madeOf, drawnIn, drawnOf, behindDraw, unmoved, answerTo, drawsOf}
-use Rattle.draws.proofs.Theorems.{drawn-is-fine, seed-left, refused-draw, seed-lives, drawn-delay}
+use Rattle.generator_draws.specs.Xorshift.{draw}
+use Rattle.generator_draws.specs.Draw as draws
+use Rattle.generator_draws.specs.Draw.{good-profile, chosen, draw-refusal, drawn}
+use Rattle.generator_draws.specs.Menu.{menu}
+use Rattle.generator_menu.specs.Public.{chosenOf}
+use Rattle.generator.specs.Public.{profileOf, toldDrawn, refusedOf, madeOf, madeIn, drawnIn, drawnOf, behindDraw, unmoved, answerTo, drawsOf}
+use Rattle.generator_draws.proofs.Theorems.{drawn-is-fine, seed-left, refused-draw, seed-lives, drawn-delay}
 
 -- The two ways of a draw: of a sound state it is the draw of the machine; any other is refused with 1.
 data Tested (k : Kernel) (seed : ℕ) (p : Profile) : Type 0 where
@@ -56,7 +58,8 @@ drawn-code : (m : Machine) (seed : ℕ) (p : draws.Profile) → drawn m seed p .
 unfolding drawn
 drawn-code m seed p = go (eqb (draw-refusal m seed p) 0) refl _ _ refl refl
   where
-    go : (b : Bool) → eqb (draw-refusal m seed p) 0 ≡ b → (x y : draws.Drawn) → x .code ≡ 0 → y .code ≡ draw-refusal m seed p → cond b x y .code ≡ draw-refusal m seed p
+    go : (b : Bool) → eqb (draw-refusal m seed p) 0 ≡ b → (x y : draws.Drawn) → x .code ≡ 0 → y .code ≡ draw-refusal m seed p
+        → cond b x y .code ≡ draw-refusal m seed p
     go true e x y f g = f ∙ sym (eqb-true _ _ e)
     go false e x y f g = g
 
@@ -67,7 +70,8 @@ pub code-in-order : (k : Kernel) (seed : ℕ) (p : Profile)
 unfolding draw-refusal view
 code-in-order k seed p = go (ways k seed p)
   where
-    go : Tested k seed p → drawnOf k seed p .code ≡ first-number ((not (isSound k), 1) ∷ (eqb seed 0, 17) ∷ (not (good-profile (profileOf p)), 18) ∷ (not (k .started), 2) ∷ [])
+    go : Tested k seed p → drawnOf k seed p .code ≡ first-number
+        ((not (isSound k), 1) ∷ (eqb seed 0, 17) ∷ (not (good-profile (profileOf p)), 18) ∷ (not (k .started), 2) ∷ [])
     go (tested s q) = rw (q, s) (drawn-code (view k) seed (profileOf p))
     go (unsound s q) = rw (q, s)
 
@@ -100,22 +104,14 @@ pub made-steps : (k : Kernel) (d : Drawn) → d .code ≡ 0
     → (stepped k (d .command) .next ≡ behindDraw k d) × (stepped k (d .command) .answer ≡ answerTo k d)
 made-steps k d e = (rw (eq-eqb (d .code) 0 e), rw (eq-eqb (d .code) 0 e))
 
--- The answer of a draw with its step has the draw's code: 0 for a draw that is made, since its command is accepted, and its number for a refused one.
--- Rules out: a drawn command that the step refuses.
-pub answered-code : (k : Kernel) (seed : ℕ) (p : Profile) → let d = drawnOf k seed p in answerTo k d .code ≡ d .code
-answered-code k seed p = go (eqb (drawnOf k seed p .code) 0) refl
-  where
-    go : (b : Bool) → eqb (drawnOf k seed p .code) 0 ≡ b → answerTo k (drawnOf k seed p) .code ≡ drawnOf k seed p .code
-    go true e = let z = eqb-true _ _ e in rw e (drawn-accepted k seed p z ∙ sym z)
-    go false e = rw e
-
 -- ## What is drawn
 -- It is of an op 4..11, and that kind's weight is not 0.
 pub drawn-has-weight : (k : Kernel) (seed : ℕ) (p : Profile) → drawnOf k seed p .code ≡ 0
     → (4 ≤ drawnOf k seed p .command .op) × (drawnOf k seed p .command .op ≤ 11) × (1 ≤ at (p .weights) (drawnOf k seed p .command .op - 4))
 drawn-has-weight k seed p e = go (ways k seed p)
   where
-    go : Tested k seed p → (4 ≤ drawnOf k seed p .command .op) × (drawnOf k seed p .command .op ≤ 11) × (1 ≤ at (p .weights) (drawnOf k seed p .command .op - 4))
+    go : Tested k seed p → (4 ≤ drawnOf k seed p .command .op) × (drawnOf k seed p .command .op ≤ 11)
+        × (1 ≤ at (p .weights) (drawnOf k seed p .command .op - 4))
     go (tested s q) = let f = drawn-is-fine (view k) seed (profileOf p) (machine-sound k s) (sym (code-same q) ∙ e) in rw q (f .op .0, f .op .1, f .weight)
     go (unsound s q) = absurd (omega (arith, code-same q))
 
@@ -143,12 +139,20 @@ drawn-by : (m : Machine) (seed : ℕ) (p : draws.Profile) → drawn m seed p .co
 unfolding drawn
 drawn-by m seed p z = rw (eq-eqb (draw-refusal m seed p) 0 (sym (drawn-code m seed p) ∙ z))
 
-pub drawn-made : (k : Kernel) (seed : ℕ) (p : Profile) → drawnOf k seed p .code ≡ 0 → drawnOf k seed p ≡ madeOf k p (draw seed) (draw (draw seed)) (draw (draw (draw seed)))
+pub drawn-made : (k : Kernel) (seed : ℕ) (p : Profile) → drawnOf k seed p .code ≡ 0
+    → drawnOf k seed p ≡ madeOf k p (draw seed) (draw (draw seed)) (draw (draw (draw seed)))
 drawn-made k seed p e = go (ways k seed p)
   where
     go : Tested k seed p → drawnOf k seed p ≡ madeOf k p (draw seed) (draw (draw seed)) (draw (draw (draw seed)))
     go (tested s q) = q ∙ ap toldDrawn (drawn-by (view k) seed (profileOf p) (sym (code-same q) ∙ e))
     go (unsound s q) = absurd (omega (arith, code-same q))
+
+-- The same on the tables: what is chosen looks at the machine that they show, and at no more.
+pub made-read : (k : Kernel) (seed : ℕ) (p : Profile)
+    → madeIn (k .base) (k .ready) (k .held) (k .way) (k .ceiling) (k .waiter) (k .clock) seed p
+    ≡ madeOf k p (draw seed) (draw (draw seed)) (draw (draw (draw seed)))
+unfolding view chosenOf chosen menu
+made-read k seed p = refl
 
 -- A seed of 32 bits that is not 0 never dies: what is left behind is again such a seed.
 pub seed-never-dies : (k : Kernel) (seed : ℕ) (p : Profile) → seed < 2 ^ 32 → seed ≢ 0 → (drawnOf k seed p .seed < 2 ^ 32) × (drawnOf k seed p .seed ≢ 0)
@@ -186,13 +190,13 @@ next-on m s on c = go (step m s c)
 
 step-on : (k : Kernel) → isSound k ≡ true → k .started ≡ true → (c : Command) → stepped k c .next .started ≡ true
 unfolding stepOf encode view
-step-on k s on c = rw s (next-on (view k) (stands k s .machine) on (said c))
+step-on k s on c = rw s (next-on (view k) (stands k s .machine) on (to-rules c))
 
 going-on : (k : Kernel) (seed : ℕ) (p : Profile) → Going k seed → Going (stepped k (drawnOf k seed p .command) .next) (drawnOf k seed p .seed)
 going-on k seed p g =
     let c = drawnOf k seed p .command in
     let w = seed-never-dies k seed p (g .small) (g .alive) in
-    record { sound = step-sound k (said c) (g .sound); on = step-on k (g .sound) (g .on) c; small = w .0; alive = w .1 }
+    record { sound = step-sound k (to-rules c) (g .sound); on = step-on k (g .sound) (g .on) c; small = w .0; alive = w .1 }
 
 -- From a sound started state, a seed 1..2^32-1 and a valid profile, draws go on for ever: behind any number of them, each with its step,
 -- the next draw is accepted and the step accepts what it draws. So no run of draws meets 1, 17, 18 or 2 in its middle.

@@ -3,25 +3,21 @@ use Prim.Native.Nat.{ℕ, zero, suc}
 use mathlib.Core.Path.{_≡_}
 use mathlib.Core.Bool.{cond}
 use lib.Dec.{eqb}
-use Rattle.rules.specs.Machine as rules
+use mathlib.Core.List.{List}
 use Rattle.kernel.specs.declared.Kernel.{Kernel}
-use Rattle.checks.specs.declared.Command.{Command}
 use Rattle.kernel.specs.declared.command.Answer.{Answer}
 use Rattle.kernel.specs.View.{view}
 use Rattle.kernel.specs.Public.{isSound, stepped, runningOf}
 use Rattle.generator.specs.declared.Profile.{Profile}
 use Rattle.generator.specs.declared.Drawn.{Drawn}
 use Rattle.generator.specs.declared.Carried.{Carried}
-use Rattle.generator.specs.declared.Generator.{Generator}
-use Rattle.draws.specs.Xorshift as xorshift
-use Rattle.draws.specs.Draw as draw
+use Rattle.generator_draws.specs.Draw as draw
+use Rattle.generator_draws.specs.Xorshift as xorshift
+use Rattle.generator_menu.specs.Public.{toldCommand, chosenOf}
 
--- a profile of 32-bit numbers, as the definitions have it; a command and the answer of a draw, in their numbers
+-- a profile of 32-bit numbers, as the definitions have it; and the answer of a draw, in the program's numbers
 abbrev pub profileOf : Profile → draw.Profile
-profileOf p = record { span = p .span; weights = p .weights }
-
-abbrev pub toldCommand : rules.Command → Command
-toldCommand c = record { op = c .op; a = c .a; b = c .b; value = c .value }
+profileOf p = draw.profile-of (p .span) (p .weights)
 
 abbrev pub toldDrawn : draw.Drawn → Drawn
 toldDrawn d = record { code = d .code; command = toldCommand (d .command); seed = d .seed }
@@ -32,7 +28,20 @@ refusedOf code seed = record { code = code; command = toldCommand draw.no-comman
 
 -- The answer of a draw that is made: the command that its three draws choose, and the third as the seed.
 abbrev pub madeOf : Kernel → Profile → ℕ → ℕ → ℕ → Drawn
-madeOf k p d1 d2 d3 = record { code = 0; command = toldCommand (draw.chosen (view k) (profileOf p) d1 d2 d3); seed = d3 }
+madeOf k p d1 d2 d3 =
+    record { code = 0; command = toldCommand (draw.chosen (view k) (profileOf p) d1 d2 d3); seed = d3 }
+
+-- the same, of the machine that the tables show
+abbrev pub madeIn : List ℕ → List ℕ → List ℕ → List ℕ → List ℕ → List ℕ → ℕ → ℕ → Profile → Drawn
+madeIn base ready held way ceiling waiter clock seed p =
+    let d1 = xorshift.draw seed in
+    let d2 = xorshift.draw d1 in
+    let d3 = xorshift.draw d2 in
+    record {
+      code = 0;
+      command = chosenOf base ready held way ceiling waiter clock (p .span) (p .weights) d1 d2 d3;
+      seed = d3;
+    }
 
 -- The draw of the machine that the tables stand for, with its checks 17, 18, 2.
 unfoldable pub drawnIn : Kernel → ℕ → Profile → Drawn
@@ -66,11 +75,3 @@ DrawsAndSteps k seed p r left =
 unfoldable pub drawsOf : ℕ → Kernel → ℕ → Profile → Kernel × ℕ
 drawsOf zero k seed p = (k, seed)
 drawsOf (suc n) k seed p = let d = drawnOf k seed p in drawsOf n (stepped k (d .command) .next) (d .seed) p
-
--- The lent form: the number drawn and the generator left behind;
-abbrev pub Advances : Generator → ℕ → Generator → Type 0
-Advances g r left = (r ≡ xorshift.draw (g .seed)) × (left .seed ≡ xorshift.draw (g .seed))
-
--- the answer of a draw and the generator left behind, whose seed is that of the answer.
-abbrev pub DrawsWith : Generator → Kernel → Profile → Drawn → Generator → Type 0
-DrawsWith g k p r left = (r ≡ drawnOf k (g .seed) p) × (left .seed ≡ drawnOf k (g .seed) p .seed)

@@ -2,14 +2,12 @@
 ghost use mathlib.Core.Path.{_≡_};
 ghost use Rattle.kernel.specs.Step.{tables};
 ghost use Rattle.generator.specs.Public as public;
-ghost use Rattle.generator.specs.Tables.{madeIn};
 use crate::Carried;
 use crate::Drawn;
 use crate::Profile;
-use crate::pick_command;
-use crate::refusal;
 use crate::refused;
-use crate::three_draws;
+use generator_lent::three_draws;
+use generator_menu::pick_command;
 use kernel::Answer;
 use kernel::TaskID;
 
@@ -28,9 +26,12 @@ fn code_of<'a>(
     seed: u32,
     p: Profile,
 ) -> u8
-    ensures { λ r. ⌜ r ≡ public.drawnOf (tables (now (base .entry)) (now (ready .entry)) (now (delayed .entry)) (now (held .entry)) (now (way .entry)) (now (until .entry)) ceiling waiter clock started) seed p .code ⌝ }
+    ensures { λ r. ⌜ r ≡ public.drawnOf (tables
+        (now (base .entry)) (now (ready .entry)) (now (delayed .entry)) (now (held .entry)) (now (way .entry))
+        (now (until .entry)) ceiling waiter clock started) seed p .code ⌝ }
 {
-    let code = refusal(started, seed, p);
+    let weights = p.weights;
+    let code = generator_checks::refusal(started, seed, p.span, weights);
     let sound = kernel::in_place::sound(
         base,
         ready,
@@ -43,7 +44,7 @@ fn code_of<'a>(
         clock,
         started,
     );
-    line::choose(!sound, 1, code)
+    kernel_line::choose(!sound, 1, code)
 }
 
 // The answer of a draw that is made: the command that its three draws choose, and the third as the seed.
@@ -58,10 +59,26 @@ fn made(
     seed: u32,
     p: Profile,
 ) -> Drawn
-    ensures { λ r. ⌜ r ≡ madeIn (now (base .entry)) (now (ready .entry)) (now (held .entry)) (now (way .entry)) ceiling waiter clock seed p ⌝ }
+    ensures { λ r. ⌜ r ≡ public.madeIn
+        (now (base .entry)) (now (ready .entry)) (now (held .entry)) (now (way .entry))
+        ceiling waiter clock seed p ⌝ }
 {
+    let weights = p.weights;
     let d = three_draws(seed);
-    let command = pick_command(base, ready, held, way, ceiling, waiter, clock, p, d);
+    let command = pick_command(
+        base,
+        ready,
+        held,
+        way,
+        ceiling,
+        waiter,
+        clock,
+        p.span,
+        weights,
+        d.first,
+        d.second,
+        d.third,
+    );
     Drawn {
         code: 0,
         command,
@@ -84,7 +101,9 @@ pub fn draw<'a>(
     seed: u32,
     p: Profile,
 ) -> Drawn
-    ensures { λ r. ⌜ r ≡ public.drawnOf (tables (now (base .entry)) (now (ready .entry)) (now (delayed .entry)) (now (held .entry)) (now (way .entry)) (now (until .entry)) ceiling waiter clock started) seed p ⌝ }
+    ensures { λ r. ⌜ r ≡ public.drawnOf (tables
+        (now (base .entry)) (now (ready .entry)) (now (delayed .entry)) (now (held .entry)) (now (way .entry))
+        (now (until .entry)) ceiling waiter clock started) seed p ⌝ }
 {
     let code = code_of(
         base,
@@ -133,7 +152,15 @@ pub fn draw_and_step(
     seed: u32,
     p: Profile,
 ) -> Carried
-    ensures { λ r. ⌜ public.DrawsAndSteps (tables (now (base .entry)) (now (ready .entry)) (now (delayed .entry)) (now (held .entry)) (now (way .entry)) (now (until .entry)) (now (ceiling .entry)) (now (waiter .entry)) (now (clock .entry)) (now (started .entry))) seed p r (tables (now (base .exit)) (now (ready .exit)) (now (delayed .exit)) (now (held .exit)) (now (way .exit)) (now (until .exit)) (now (ceiling .exit)) (now (waiter .exit)) (now (clock .exit)) (now (started .exit))) ⌝ }
+    ensures { λ r. ⌜ public.DrawsAndSteps
+        (tables
+        (now (base .entry)) (now (ready .entry)) (now (delayed .entry)) (now (held .entry)) (now (way .entry))
+        (now (until .entry)) (now (ceiling .entry)) (now (waiter .entry)) (now (clock .entry))
+        (now (started .entry)))
+        seed p r
+        (tables
+        (now (base .exit)) (now (ready .exit)) (now (delayed .exit)) (now (held .exit)) (now (way .exit))
+        (now (until .exit)) (now (ceiling .exit)) (now (waiter .exit)) (now (clock .exit)) (now (started .exit))) ⌝ }
 {
     let tops = *ceiling;
     let waits = *waiter;
@@ -152,8 +179,8 @@ pub fn draw_and_step(
         p,
     );
     if drawn.code != 0 {
-        let running = line::choose(*started, ready[0], 0);
-        let answer = unmoved(drawn.code, running);
+        let running = kernel_ready::running(*started, ready);
+        let answer = unmoved(drawn.code, running.0);
         return Carried { drawn, answer };
     }
     let c = drawn.command;

@@ -1,5 +1,6 @@
-// Draws on good and bad input, all of it against all: each row has a state, a seed, a span and the weights of delay and wake, and then what
-// `generator::draw` answers. Document 01's order of a draw's checks is 1, 17, 18, 2; a refused draw draws nothing and leaves the seed.
+// Draws on good and bad input, all of it against all: each row has a state, a seed, a span and the weights of delay and
+// wake, and then what `generator::draw` answers. Document 01's order of a draw's checks is 1, 17, 18, 2; a refused draw
+// draws nothing and leaves the seed.
 use generator::Drawn;
 use generator::Profile;
 use kernel::Command;
@@ -19,8 +20,8 @@ fn set_up() -> Kernel {
     stepped(stepped(k, 1, 3, 3, 0), 2, 1, 4, 0)
 }
 
-// 0 is not started, 1 is; the others are forged: idle has a base, a task stands twice, a task is above 31, an object is held that is not
-// declared, a way is left where nothing is held, a waiter is ready.
+// 0 is not started, 1 is; the others are forged: idle has a base, a task stands twice, a task is above 31, an object is
+// held that is not declared, a way is left where nothing is held, a waiter is ready.
 fn state(n: u64, early: Kernel, on: Kernel) -> Kernel {
     if n == 0 {
         return early;

@@ -1,5 +1,5 @@
-// A run is a seed: 100,000 draws with their steps, from eight tasks and five objects. Each line tells how far it is, the running task, the clock
-// and the seed, and a number that changes with any command and any answer on the way.
+// A run is a seed: 100,000 draws with their steps, from eight tasks and five objects. Each line tells how far it is,
+// the running task, the clock and the seed, and a number that changes with any command and any answer on the way.
 use generator::Carried;
 use generator::Profile;
 use kernel::Answer;

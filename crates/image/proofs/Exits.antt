@@ -1,31 +1,30 @@
 -- What a call answers and leaves, by its exits: bytes of which no state is read, a refusal, an accepted step. Bytes whose state is not sound
 -- go through the kernel, which refuses with 1. Assumes nothing.
 use mathlib.Core.Path.{_≡_, refl, sym, ap, _∙_}
-use mathlib.Core.Logic.{_≢_}
 use mathlib.Core.List.{List}
 use mathlib.Core.Bool.{Bool, true, false, cond, _&&_}
 use Prim.Native.Nat.{ℕ, _+_, _*_}
-use native.Mathlib.Nat.{add-zero}
 use lib.ListN.{length}
 use native.Mathlib.Omega.{arith}
 use lib.Dec.{eqb}
-use borrow.Author.Tests.{eq-eqb, ne-eqb, eqb-true}
+use borrow.Author.Tests.{eq-eqb, eqb-true, eqb-false}
 use Rattle.rules.specs.Machine.{Command}
 use Rattle.rules.proofs.Tests.{both-true}
 use Rattle.kernel.specs.declared.Kernel.{Kernel}
 use Rattle.kernel.specs.declared.Stepped.{Stepped}
 use Rattle.kernel.specs.declared.command.Answer.{Answer}
-use Rattle.kernel.specs.Public.{isSound, report, shape, said, stepOf, leftOf}
-use Rattle.layout.specs.Layout.{imageOf, kernelOf, clean, formed, isImage}
+use Rattle.kernel.specs.Public.{isSound, report, shape, to-rules, stepOf, leftOf}
+use Rattle.image_form.specs.Layout.{imageOf, kernelOf, clean, formed, isImage}
 use Rattle.generator.specs.declared.Profile.{Profile}
 use Rattle.generator.specs.declared.Drawn.{Drawn}
 use Rattle.generator.specs.declared.Carried.{Carried}
 use Rattle.generator.specs.Public.{drawnOf, refusedOf, behindDraw, answerTo, carriedOf}
-use Rattle.generator.proofs.Shipped.{refused-leaves}
-use Rattle.image.specs.Calls.{fitted, packed, packedLeft, stepAnswer, stepImage, leftAnswer}
-use Rattle.image.specs.Calls.{toldProfile, fittedProfile, drawOn, packedDrawn, drawAnswer, drawSeed, drawValue, drawStepAnswer, drawStepImage}
-use Rattle.image.specs.Tables.{stepRead, kept, drawnRead, behindRead}
-use Rattle.image.proofs.Cut.{asked, asked-draw}
+use Rattle.image_calls.specs.Calls.{fitted, packed, packedLeft, stepAnswer, stepImage, leftAnswer}
+use Rattle.image_calls.specs.Calls.{toldProfile, fittedProfile, drawOn, packedDrawn, drawAnswer, drawSeed, drawValue, drawStepAnswer, drawStepImage}
+use Rattle.image_calls.proofs.Cut.{fitted-step, asked-draw}
+use Rattle.image_calls.proofs.Theorems.{left-alone}
+use Rattle.image_edge.specs.Edge.{imageLeft, seedLeft, valueLeft, packedBoth}
+use Rattle.image.specs.Tables.{stepRead, drawnRead, behindRead}
 
 -- Bytes of which no state is read are no image; of others the state decides.
 unformed : (s : List ℕ) → formed s ≡ false → isImage s ≡ false
@@ -66,19 +65,24 @@ module _ (s : List ℕ) (k : Kernel) (c : Command) where
       go true h true e = rw (h, image-sound s h, e)
       go true h false e = rw (h, image-sound s h, e, unsound (kernelOf s) c e)
 
-  pub step-left : kept s (stepRead s k c .next) (stepRead s k c .answer) ≡ stepImage s c
+  pub step-left : imageLeft s (stepRead s k c .next) (stepRead s k c .answer) ≡ stepImage s c
   unfolding stepImage
   step-left = go (formed s) refl (isSound (kernelOf s)) refl
     where
       go : (f : Bool) → formed s ≡ f → (b : Bool) → isSound (kernelOf s) ≡ b
-          → let r = stepOf (kernelOf s) c in kept s (stepRead s k c .next) (stepRead s k c .answer) ≡ cond (isImage s && eqb (r .answer .code) 0) (imageOf (r .next)) s
+          → let r = stepOf (kernelOf s) c in imageLeft s (stepRead s k c .next) (stepRead s k c .answer)
+          ≡ cond (isImage s && eqb (r .answer .code) 0) (imageOf (r .next)) s
       go false h b e = rw (h, unformed s h)
       go true h true e = rw (h, image-sound s h, e, eq-eqb (length s) 512 (formed-size s h))
       go true h false e = rw (h, image-sound s h, e, unsound (kernelOf s) c e)
 
+-- the step of a command that fits is the step of the command itself
+asked : {d : Command} (s : List ℕ) (k : Kernel) (c : Command) → d ≡ fitted c → stepRead s k d ≡ stepRead s k c
+asked s k c e = ap (stepRead s k) e ∙ ap (λ (t : Stepped). cond (formed s) t (report k shape)) (fitted-step (kernelOf s) c)
+
 -- tables and answers that are the same
-pub same-kept : {t u : Kernel} {a b : Answer} (s : List ℕ) → t ≡ u → a ≡ b → kept s t a ≡ kept s u b
-same-kept {t = t} {b = b} s e f = ap (kept s t) f ∙ ap (λ (j : Kernel). kept s j b) e
+pub same-left : {t u : Kernel} {a b : Answer} (s : List ℕ) → t ≡ u → a ≡ b → imageLeft s t a ≡ imageLeft s u b
+same-left {t = t} {b = b} s e f = ap (imageLeft s t) f ∙ ap (λ (j : Kernel). imageLeft s j b) e
 
 pub same-carried : {d e : Drawn} {a b : Answer} → d ≡ e → a ≡ b → carriedOf d a ≡ carriedOf e b
 same-carried p q = cc
@@ -86,12 +90,12 @@ same-carried p q = cc
 -- The tables t and the answer a that the step of a command d that fits leaves: packed, and laid out.
 module _ {t : Kernel} {a : Answer} {d : Command} (s : List ℕ) (k : Kernel) (c : Command) (fits : d ≡ fitted c)
     (left : t ≡ stepRead s k d .next) (replied : a ≡ stepRead s k d .answer) where
-  pub step-ends : (packed a ≡ stepAnswer s c) × (kept s t a ≡ stepImage s c)
+  pub step-ends : (packed a ≡ stepAnswer s c) × (imageLeft s t a ≡ stepImage s c)
   step-ends =
       let e = asked s k c fits in
       let x = replied ∙ ap (λ (r : Stepped). r .answer) e in
       let y = left ∙ ap (λ (r : Stepped). r .next) e in
-      (ap packed x ∙ step-answered s k c, same-kept s y x ∙ step-left s k c)
+      (ap packed x ∙ step-answered s k c, same-left s y x ∙ step-left s k c)
 
 -- The question.
 module _ (s : List ℕ) (t : ℕ) where
@@ -121,38 +125,27 @@ module _ (s : List ℕ) (seed : ℕ) (p : Profile) where
       go true e = refl
       go false e = unsound-draw (kernelOf s) seed p e
 
--- A refused draw is its code and the seed that came in.
-pub left-alone : (s : List ℕ) (seed : ℕ) (p : Profile) → drawOn s seed p .code ≢ 0 → drawOn s seed p ≡ refusedOf (drawOn s seed p .code) seed
-unfolding drawOn
-left-alone s seed p = go (isImage s)
-  where
-    go : (b : Bool) → let d = cond b (drawnOf (kernelOf s) seed p) (refusedOf 1 seed) in d .code ≢ 0 → d ≡ refusedOf (d .code) seed
-    go true n = refused-leaves (kernelOf s) seed p n
-    go false n = refl
-
 -- What the call answers, and the seed and the value that it leaves.
-module _ (s : List ℕ) (seed span : ℕ) (weights : List ℕ) (value : ℕ) {r : ℕ} {d : Drawn} (packing : r ≡ packedDrawn d) (drawing : d ≡ drawOn s seed (toldProfile span weights)) where
+module _ (s : List ℕ) (seed span : ℕ) (weights : List ℕ) (value : ℕ) {d : Drawn} (drawing : d ≡ drawOn s seed (toldProfile span weights)) where
   abbrev found : Drawn
   found = drawOn s seed (toldProfile span weights)
 
-  packed-so : r ≡ drawAnswer s seed span weights
+  seed-so : seedLeft d seed ≡ drawSeed s seed span weights
+  unfolding drawSeed
+  seed-so = ap (λ (y : Drawn). seedLeft y seed) drawing ∙ go (eqb (found .code) 0) refl
+    where
+      go : (b : Bool) → eqb (found .code) 0 ≡ b → cond b (found .seed) seed ≡ found .seed
+      go true q = refl
+      go false q = sym (ap (λ (y : Drawn). y .seed) (left-alone s seed (toldProfile span weights) (eqb-false (found .code) 0 q)))
+
+  value-so : valueLeft d value ≡ drawValue s seed span weights value
+  unfolding drawValue
+  value-so = ap (λ (y : Drawn). valueLeft y value) drawing
+
+  pub draw-ends : {r x v : ℕ} → r ≡ packedDrawn d → x ≡ seedLeft d seed → v ≡ valueLeft d value
+      → (r ≡ drawAnswer s seed span weights) × (x ≡ drawSeed s seed span weights) × (v ≡ drawValue s seed span weights value)
   unfolding drawAnswer
-  packed-so = packing ∙ ap packedDrawn drawing
-
-  code-so : d .code ≡ found .code
-  code-so = ap (λ (e : Drawn). e .code) drawing
-
-  pub refused-draw : d .code ≢ 0 → (r ≡ drawAnswer s seed span weights) × (seed ≡ drawSeed s seed span weights) × (value ≡ drawValue s seed span weights value)
-  unfolding drawSeed drawValue
-  refused-draw n = (
-    packed-so,
-    sym (ap (λ (x : Drawn). x .seed) (left-alone s seed (toldProfile span weights) (λ e. n (code-so ∙ e)))),
-    rw (ne-eqb (found .code) 0 (λ e. n (code-so ∙ e))),
-  )
-
-  pub accepted-draw : d .code ≡ 0 → (r ≡ drawAnswer s seed span weights) × (d .seed ≡ drawSeed s seed span weights) × (d .command .value ≡ drawValue s seed span weights value)
-  unfolding drawSeed drawValue
-  accepted-draw e = (packed-so, ap (λ (x : Drawn). x .seed) drawing, rw (eq-eqb (found .code) 0 (sym code-so ∙ e)) (ap (λ (x : Drawn). x .command .value) drawing))
+  draw-ends p e f = (p ∙ ap packedDrawn drawing, e ∙ seed-so, f ∙ value-so)
 
 -- A draw with its step of what is read: what is drawn is the draw's, what is left is the step's of that command, and so is the answer.
 pub drawn-so : (s : List ℕ) (seed : ℕ) (p : Profile) → drawnRead s seed p .drawn ≡ drawOn s seed p
@@ -168,32 +161,45 @@ module _ (s : List ℕ) (seed : ℕ) (p : Profile) (h : formed s ≡ true) where
   drawn-there = drawnOf (kernelOf s) seed p
 
   left-there : (b : Bool) → eqb (drawn-there .code) 0 ≡ b
-      → kept s (behindDraw (kernelOf s) drawn-there) (answerTo (kernelOf s) drawn-there) ≡ cond (eqb (drawn-there .code) 0) (stepImage s (said (drawn-there .command))) s
-  left-there true e = rw e (rw h at (step-left s (kernelOf s) (said (drawn-there .command))))
+      → imageLeft s (behindDraw (kernelOf s) drawn-there) (answerTo (kernelOf s) drawn-there)
+      ≡ cond (eqb (drawn-there .code) 0) (stepImage s (to-rules (drawn-there .command))) s
+  left-there true e = rw e (rw h at (step-left s (kernelOf s) (to-rules (drawn-there .command))))
   left-there false e = rw (e, e)
 
-  answer-there : drawn-there .code ≡ 0 → packed (answerTo (kernelOf s) drawn-there) ≡ stepAnswer s (said (drawn-there .command))
-  answer-there e = rw (eq-eqb (drawn-there .code) 0 e) (rw h at (step-answered s (kernelOf s) (said (drawn-there .command))))
+  answer-there : drawn-there .code ≡ 0 → packed (answerTo (kernelOf s) drawn-there) ≡ stepAnswer s (to-rules (drawn-there .command))
+  answer-there e = rw (eq-eqb (drawn-there .code) 0 e) (rw h at (step-answered s (kernelOf s) (to-rules (drawn-there .command))))
 
 left-so : (s : List ℕ) (k : Kernel) (seed : ℕ) (p : Profile)
-    → let d = drawOn s seed p in kept s (behindRead s k seed p) (drawnRead s seed p .answer) ≡ cond (eqb (d .code) 0) (stepImage s (said (d .command))) s
+    → let d = drawOn s seed p in imageLeft s (behindRead s k seed p) (drawnRead s seed p .answer) ≡ cond (eqb (d .code) 0) (stepImage s (to-rules (d .command))) s
 left-so s k seed p = go (formed s) refl
   where
     go : (b : Bool) → formed s ≡ b
-        → let d = drawOn s seed p in kept s (behindRead s k seed p) (drawnRead s seed p .answer) ≡ cond (eqb (d .code) 0) (stepImage s (said (d .command))) s
+        → let d = drawOn s seed p in imageLeft s (behindRead s k seed p) (drawnRead s seed p .answer)
+        ≡ cond (eqb (d .code) 0) (stepImage s (to-rules (d .command))) s
     go true h = rw (h, ← answered-draw s seed p h) (left-there s seed p h (eqb (drawnOf (kernelOf s) seed p .code) 0) refl)
     go false h = rw (h, ← none-draw s seed p h)
 
-said-so : (s : List ℕ) (seed : ℕ) (p : Profile) → let d = drawOn s seed p in d .code ≡ 0 → packed (drawnRead s seed p .answer) ≡ stepAnswer s (said (d .command))
+said-so : (s : List ℕ) (seed : ℕ) (p : Profile) → let d = drawOn s seed p in d .code ≡ 0 → packed (drawnRead s seed p .answer)
+    ≡ stepAnswer s (to-rules (d .command))
 said-so s seed p = go (formed s) refl
   where
-    go : (b : Bool) → formed s ≡ b → drawOn s seed p .code ≡ 0 → packed (drawnRead s seed p .answer) ≡ stepAnswer s (said (drawOn s seed p .command))
+    go : (b : Bool) → formed s ≡ b → drawOn s seed p .code ≡ 0 → packed (drawnRead s seed p .answer) ≡ stepAnswer s (to-rules (drawOn s seed p .command))
     go true h e = rw (h, ← answered-draw s seed p h) (answer-there s seed p h (ap (λ (d : Drawn). d .code) (answered-draw s seed p h) ∙ e))
     go false h e = let z : _≡_ {A = ℕ} 1 0 = ap (λ (d : Drawn). d .code) (none-draw s seed p h) ∙ e in absurd (omega arith)
 
+told-so : (s : List ℕ) (seed : ℕ) (p : Profile) → let d = drawOn s seed p in
+    cond (eqb (d .code) 0) (packed (drawnRead s seed p .answer)) 0 ≡ cond (eqb (d .code) 0) (stepAnswer s (to-rules (d .command))) 0
+told-so s seed p = go (eqb (drawOn s seed p .code) 0) refl
+  where
+    go : (b : Bool) → eqb (drawOn s seed p .code) 0 ≡ b → cond b (packed (drawnRead s seed p .answer)) 0
+        ≡ cond b (stepAnswer s (to-rules (drawOn s seed p .command))) 0
+    go true q = said-so s seed p (eqb-true (drawOn s seed p .code) 0 q)
+    go false q = refl
+
 -- What the call answers, and the image, the seed and the value that it leaves.
-module _ (s : List ℕ) (k : Kernel) (seed span : ℕ) (weights : List ℕ) (value : ℕ) {p : Profile} {r : Carried} {t : List ℕ} (fits : p ≡ fittedProfile span weights)
-    (carried : r ≡ drawnRead s seed p) (left : t ≡ kept s (behindRead s k seed p) (drawnRead s seed p .answer)) where
+module _ (s : List ℕ) (k : Kernel) (seed span : ℕ) (weights : List ℕ) (value : ℕ) {p : Profile} {r : Carried} {t : List ℕ}
+    (fits : p ≡ fittedProfile span weights)
+    (carried : r ≡ drawnRead s seed p) (left : t ≡ imageLeft s (behindRead s k seed p) (drawnRead s seed p .answer)) where
   same-draw : drawOn s seed p ≡ drawOn s seed (toldProfile span weights)
   same-draw = asked-draw s seed span weights refl fits
 
@@ -202,29 +208,18 @@ module _ (s : List ℕ) (k : Kernel) (seed span : ℕ) (weights : List ℕ) (val
 
   image-so : t ≡ drawStepImage s seed span weights
   unfolding drawStepImage
-  image-so = left ∙ left-so s k seed p ∙ ap (λ (d : Drawn). cond (eqb (d .code) 0) (stepImage s (said (d .command))) s) same-draw
+  image-so = left ∙ left-so s k seed p ∙ ap (λ (d : Drawn). cond (eqb (d .code) 0) (stepImage s (to-rules (d .command))) s) same-draw
 
-  pub refused-draw-step : {n : ℕ} → r .drawn .code ≢ 0 → n ≡ packedDrawn (r .drawn)
-      → (n ≡ drawStepAnswer s seed span weights) × (t ≡ drawStepImage s seed span weights)
-      × (seed ≡ drawSeed s seed span weights) × (value ≡ drawValue s seed span weights value)
+  both-so : packedBoth (r .drawn) (r .answer) ≡ drawStepAnswer s seed span weights
   unfolding drawStepAnswer
-  refused-draw-step z e =
-      let w = refused-draw s seed span weights value e drawing z in
-      let found = drawOn s seed (toldProfile span weights) in
-      let none = ne-eqb (found .code) 0 (λ q. z (ap (λ (d : Drawn). d .code) drawing ∙ q)) in
-      (e ∙ ap packedDrawn drawing ∙ rw none (sym (add-zero (packedDrawn found))), image-so, w .1, w .2)
+  both-so =
+      ap (λ (c : Carried). packedBoth (c .drawn) (c .answer)) carried
+      ∙ ap (λ (d : Drawn). packedBoth d (drawnRead s seed p .answer)) (drawn-so s seed p)
+      ∙ ap (λ (n : ℕ). packedDrawn (drawOn s seed p) + 4294967296 * n) (told-so s seed p)
+      ∙ ap (λ (d : Drawn). packedDrawn d + 4294967296 * cond (eqb (d .code) 0) (stepAnswer s (to-rules (d .command))) 0) same-draw
 
-  pub accepted-draw-step : {n : ℕ} → r .drawn .code ≡ 0 → n ≡ packedDrawn (r .drawn) + 4294967296 * packed (r .answer)
+  pub draw-step-ends : {n x v : ℕ} → n ≡ packedBoth (r .drawn) (r .answer) → x ≡ seedLeft (r .drawn) seed → v ≡ valueLeft (r .drawn) value
       → (n ≡ drawStepAnswer s seed span weights) × (t ≡ drawStepImage s seed span weights)
-      × (r .drawn .seed ≡ drawSeed s seed span weights) × (r .drawn .command .value ≡ drawValue s seed span weights value)
-  unfolding drawStepAnswer
-  accepted-draw-step z e =
-      let w = accepted-draw s seed span weights value refl drawing z in
-      let found = drawOn s seed (toldProfile span weights) in
-      let made : found .code ≡ 0 = ap (λ (d : Drawn). d .code) (sym drawing) ∙ z in
-      let so = said-so s seed p (ap (λ (d : Drawn). d .code) same-draw ∙ made) in
-      let said-there = ap (λ (c : Carried). packed (c .answer)) carried ∙ so ∙ ap (λ (d : Drawn). stepAnswer s (said (d .command))) same-draw in
-      (e ∙ both (ap packedDrawn drawing) said-there ∙ rw (eq-eqb (found .code) 0 made), image-so, w .1, w .2)
-    where
-      both : {a b c d : ℕ} → a ≡ b → c ≡ d → a + 4294967296 * c ≡ b + 4294967296 * d
-      both x y = cc
+      × (x ≡ drawSeed s seed span weights) × (v ≡ drawValue s seed span weights value)
+  draw-step-ends e f g =
+      let w = draw-ends s seed span weights value drawing refl f g in (e ∙ both-so, image-so, w .1, w .2)

@@ -1,4 +1,2 @@
-mod Cut
 mod Exits
-mod Theorems
 mod Single

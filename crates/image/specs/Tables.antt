@@ -3,24 +3,18 @@
 use Prim.Native.Nat.{ℕ}
 use mathlib.Core.Bool.{cond}
 use mathlib.Core.List.{List}
-use lib.Dec.{eqb}
 use Rattle.rules.specs.Machine.{Command}
 use Rattle.kernel.specs.declared.Kernel.{Kernel}
 use Rattle.kernel.specs.declared.Stepped.{Stepped}
-use Rattle.kernel.specs.declared.command.Answer.{Answer}
 use Rattle.kernel.specs.Public.{report, shape, stepOf}
 use Rattle.generator.specs.declared.Profile.{Profile}
 use Rattle.generator.specs.declared.Carried.{Carried}
 use Rattle.generator.specs.Public.{drawnOf, refusedOf, behindDraw, unmoved, answerTo, carriedOf}
-use Rattle.layout.specs.Layout.{kernelOf, formed, laid}
+use Rattle.image_form.specs.Layout.{kernelOf, formed}
 
 -- The step of what is read. Bytes of which no state can be read leave the tables, and are answered 1, 0, 0.
 abbrev pub stepRead : List ℕ → Kernel → Command → Stepped
 stepRead s k c = cond (formed s) (stepOf (kernelOf s) c) (report k shape)
-
--- The tables laid out in the bytes, where the answer is no refusal.
-abbrev pub kept : List ℕ → Kernel → Answer → List ℕ
-kept s k a = cond (eqb (a .code) 0) (laid s k) s
 
 -- A draw with its step, of what is read: what is drawn and answered,
 abbrev pub drawnRead : List ℕ → ℕ → Profile → Carried

@@ -1,82 +1,32 @@
 // The model for C hosts: a chip simulator lends 512 bytes, and steps the machine that they hold.
 //
-// Crate layout has the bytes; specs/Calls says what each call answers and leaves. A call reads the image into tables on its stack and works
-// there; an accepted one lays them out in the image again. Bytes of every length, whatever they hold, get an answer: no exported function
-// has a `requires`.
+// Crate image_layout has the bytes, crate image_edge what comes in from C and goes out to it; image_calls/specs/Calls says
+// what each call answers and leaves. A call reads the image into tables on its stack and works there; an accepted one
+// lays them out in the image again. Bytes of every length, whatever they hold, get an answer: no exported function has
+// a `requires`.
 ghost use mathlib.Core.Path.{_≡_};
-ghost use Prim.Native.Nat.{_+_, _*_, _<_};
-ghost use Rattle.kernel.specs.Public.{said};
+ghost use Rattle.kernel.specs.Public.{to-rules};
 ghost use Rattle.kernel.specs.Step.{tables};
 ghost use Rattle.generator.specs.Public.{refusedOf, unmoved};
-ghost use Rattle.image.specs.Calls.{told, fitted, fittedTask, packed, stepAnswer, stepImage, freshAnswer, freshImage, packedLeft, leftAnswer};
-ghost use Rattle.image.specs.Calls.{fittedProfile, drawOn, packedDrawn, drawAnswer, drawSeed, drawValue};
-ghost use Rattle.image.specs.Calls.{drawStepAnswer, drawStepImage};
-ghost use Rattle.image.specs.Tables.{stepRead, kept, drawnRead, behindRead};
+ghost use Rattle.image_calls.specs.Calls.{told, stepAnswer, stepImage, freshAnswer, freshImage, leftAnswer, drawOn};
+ghost use Rattle.image_calls.specs.Calls.{drawAnswer, drawSeed, drawValue, drawStepAnswer, drawStepImage};
+ghost use Rattle.image_edge.specs.Edge.{imageLeft};
+ghost use Rattle.image.specs.Tables.{stepRead, drawnRead, behindRead};
 use generator::Carried;
 use generator::Drawn;
 use generator::Profile;
+use image_edge::command;
+use image_edge::keep;
+use image_edge::leave;
+use image_edge::pack_both;
+use image_edge::pack_drawn;
+use image_edge::pack_left;
+use image_edge::profile;
+use image_edge::task;
 use kernel::Answer;
 use kernel::Command;
 use kernel::Kernel;
-use kernel::Left;
 use kernel::TaskID;
-
-// The command that four numbers say. One above 255 fits no byte and is never cut: such a command is refused with 4, as op 0 is.
-fn command(op: u64, a: u64, b: u64, value: u64) -> Command
-    ensures { λ r. ⌜ said r ≡ fitted (told op a b value) ⌝ }
-{
-    let none = Command {
-        op: 0,
-        a: 0,
-        b: 0,
-        value: 0,
-    };
-    if 255 < op {
-        return none;
-    }
-    if 255 < a {
-        return none;
-    }
-    if 255 < b {
-        return none;
-    }
-    Command {
-        op: op as u8,
-        a: a as u8,
-        b: b as u8,
-        value,
-    }
-}
-
-// The task of that number: one above 255 is out of range, as 0 is.
-fn task(t: u64) -> TaskID
-    ensures { λ r. ⌜ r .0 ≡ fittedTask t ⌝ }
-{
-    if 255 < t {
-        return TaskID(0);
-    }
-    TaskID(t as u8)
-}
-
-fn wide(x: u8) -> u32
-    ensures { λ r. ⌜ (r ≡ x) × (r < 256) ⌝ }
-{
-    x as u32
-}
-
-fn pack(a: Answer) -> u32
-    ensures { λ r. ⌜ r ≡ packed a ⌝ }
-{
-    let running = a.running;
-    let released = a.released;
-    wide(a.code) + 256 * wide(running.0) + 65536 * wide(released.0)
-}
-
-fn pack_left(l: Left) -> u32
-    ensures { λ r. ⌜ r ≡ packedLeft l ⌝ }
-{
-    wide(l.code) + 256 * wide(l.left)
-}
 
 // ---- The step
 
@@ -91,8 +41,8 @@ fn no_state() -> Answer
     }
 }
 
-// The step of the machine that the bytes hold, in tables that are lent: they hold the state after it. Bytes of which no state can be read are
-// answered 1, 0, 0.
+// The step of the machine that the bytes hold, in tables that are lent: they hold the state after it. Bytes of which
+// no state can be read are answered 1, 0, 0.
 fn step_on(
     image: &[u8],
     base: &mut [u8; 32],
@@ -107,9 +57,17 @@ fn step_on(
     started: &mut bool,
     c: Command,
 ) -> Answer
-    ensures { λ r. ⌜ (tables (now (base .exit)) (now (ready .exit)) (now (delayed .exit)) (now (held .exit)) (now (way .exit)) (now (until .exit)) (now (ceiling .exit)) (now (waiter .exit)) (now (clock .exit)) (now (started .exit)) ≡ (stepRead (now (image .entry)) (tables (now (base .entry)) (now (ready .entry)) (now (delayed .entry)) (now (held .entry)) (now (way .entry)) (now (until .entry)) (now (ceiling .entry)) (now (waiter .entry)) (now (clock .entry)) (now (started .entry))) (said c)) .next) × (r ≡ (stepRead (now (image .entry)) (tables (now (base .entry)) (now (ready .entry)) (now (delayed .entry)) (now (held .entry)) (now (way .entry)) (now (until .entry)) (now (ceiling .entry)) (now (waiter .entry)) (now (clock .entry)) (now (started .entry))) (said c)) .answer) ⌝ }
+    ensures { λ r. ⌜ (tables (now (base .exit)) (now (ready .exit)) (now (delayed .exit)) (now (held .exit))
+        (now (way .exit)) (now (until .exit)) (now (ceiling .exit)) (now (waiter .exit)) (now (clock .exit))
+        (now (started .exit)) ≡ (stepRead (now (image .entry))
+        (tables (now (base .entry)) (now (ready .entry)) (now (delayed .entry)) (now (held .entry)) (now (way .entry))
+        (now (until .entry)) (now (ceiling .entry)) (now (waiter .entry)) (now (clock .entry)) (now (started .entry)))
+        (to-rules c)) .next) × (r ≡ (stepRead (now (image .entry))
+        (tables (now (base .entry)) (now (ready .entry)) (now (delayed .entry)) (now (held .entry)) (now (way .entry))
+        (now (until .entry)) (now (ceiling .entry)) (now (waiter .entry)) (now (clock .entry)) (now (started .entry)))
+        (to-rules c)) .answer) ⌝ }
 {
-    if !layout::read(
+    if !image_layout::read(
         image,
         base,
         ready,
@@ -139,47 +97,11 @@ fn step_on(
     )
 }
 
-// An accepted command's tables are laid out in the image; a refusal leaves every byte. The answer in one number.
-fn keep(
-    image: &mut [u8],
-    base: &[u8; 32],
-    ready: &[u8; 32],
-    delayed: &[u8; 32],
-    held: &[u8; 32],
-    way: &[u8; 32],
-    until: &[u64; 32],
-    ceiling: &[u8; 8],
-    waiter: &[u8; 8],
-    clock: u64,
-    started: bool,
-    answer: Answer,
-) -> u32
-    ensures { λ r. ⌜ (r ≡ packed answer) × (now (image .exit) ≡ kept (now (image .entry)) (tables (now (base .entry)) (now (ready .entry)) (now (delayed .entry)) (now (held .entry)) (now (way .entry)) (now (until .entry)) (now (ceiling .entry)) (now (waiter .entry)) clock started) answer) ⌝ }
-{
-    let r = pack(answer);
-    if answer.code != 0 {
-        return r;
-    }
-    layout::lay(
-        image,
-        base,
-        ready,
-        delayed,
-        held,
-        way,
-        until,
-        ceiling,
-        waiter,
-        clock,
-        started,
-    );
-    r
-}
-
 // Steps the machine of an image: the answer is code + 256 * running + 65536 * released. A refusal leaves every byte.
 #[no_mangle]
 pub extern "C" fn rvn_step(image: &mut [u8], op: u64, a: u64, b: u64, value: u64) -> u32
-    ensures { λ r. ⌜ (r ≡ stepAnswer (now (image .entry)) (told op a b value)) × (now (image .exit) ≡ stepImage (now (image .entry)) (told op a b value)) ⌝ }
+    ensures { λ r. ⌜ (r ≡ stepAnswer (now (image .entry)) (told op a b value))
+        × (now (image .exit) ≡ stepImage (now (image .entry)) (told op a b value)) ⌝ }
 {
     let mut base = [0u8; 32];
     let mut ready = [0u8; 32];
@@ -226,12 +148,12 @@ pub extern "C" fn rvn_step(image: &mut [u8], op: u64, a: u64, b: u64, value: u64
 pub extern "C" fn rvn_fresh(image: &mut [u8]) -> u32
     ensures { λ r. ⌜ (r ≡ freshAnswer (now (image .entry))) × (now (image .exit) ≡ freshImage (now (image .entry))) ⌝ }
 {
-    if image.len() != 512 {
+    if image.len() != image_layout::IMAGE_BYTES {
         return 1;
     }
     let none = [0u8; 32];
     let nobody = [0u8; 8];
-    layout::lay(
+    image_layout::lay(
         image,
         &none,
         &none,
@@ -262,7 +184,7 @@ pub extern "C" fn rvn_wakes_left(image: &[u8], t: u64) -> u32
     let mut waiter = [0u8; 8];
     let mut clock = 0;
     let mut started = false;
-    if !layout::read(
+    if !image_layout::read(
         image,
         &mut base,
         &mut ready,
@@ -293,35 +215,6 @@ pub extern "C" fn rvn_wakes_left(image: &[u8], t: u64) -> u32
 }
 
 // ---- A drawn command
-
-// The profile that a span and weights say. One that fits no 32 bits, or other than eight weights, is refused with 18, as span 0 is.
-fn profile(span: u64, weights: &[u32]) -> Profile
-    ensures { λ r. ⌜ r ≡ fittedProfile span (now (weights .entry)) ⌝ }
-{
-    let none = Profile {
-        span: 0,
-        weights: [0; 8],
-    };
-    if 4294967295 < span {
-        return none;
-    }
-    if weights.len() != 8 {
-        return none;
-    }
-    Profile {
-        span: span as u32,
-        weights: [
-            weights[0],
-            weights[1],
-            weights[2],
-            weights[3],
-            weights[4],
-            weights[5],
-            weights[6],
-            weights[7],
-        ],
-    }
-}
 
 // The answer where there is no image.
 fn no_image(seed: u32) -> Drawn
@@ -357,7 +250,7 @@ fn draw_on(
 ) -> Drawn
     ensures { λ r. ⌜ r ≡ drawOn (now (image .entry)) seed p ⌝ }
 {
-    if !layout::read(
+    if !image_layout::read(
         image,
         base,
         ready,
@@ -388,15 +281,8 @@ fn draw_on(
     )
 }
 
-fn pack_drawn(d: Drawn) -> u32
-    ensures { λ r. ⌜ r ≡ packedDrawn d ⌝ }
-{
-    let c = d.command;
-    wide(d.code) + 256 * wide(c.op) + 65536 * wide(c.a) + 16777216 * wide(c.b)
-}
-
-// Draws a command for the machine of an image, which it only reads: the answer is code + 256 * op + 65536 * a + 16777216 * b. The seed is
-// advanced where it stands, and the command's value stored. A refusal leaves both.
+// Draws a command for the machine of an image, which it only reads: the answer is code + 256 * op + 65536 * a +
+// 16777216 * b. The seed is advanced where it stands, and the command's value stored. A refusal leaves both.
 #[no_mangle]
 pub extern "C" fn rvn_draw(
     image: &[u8],
@@ -405,7 +291,10 @@ pub extern "C" fn rvn_draw(
     weights: &[u32],
     value: &mut u64,
 ) -> u32
-    ensures { λ r. ⌜ (r ≡ drawAnswer (now (image .entry)) (now (seed .entry)) span (now (weights .entry))) × (now (seed .exit) ≡ drawSeed (now (image .entry)) (now (seed .entry)) span (now (weights .entry))) × (now (value .exit) ≡ drawValue (now (image .entry)) (now (seed .entry)) span (now (weights .entry)) (now (value .entry))) ⌝ }
+    ensures { λ r. ⌜ (r ≡ drawAnswer (now (image .entry)) (now (seed .entry)) span (now (weights .entry)))
+        × (now (seed .exit) ≡ drawSeed (now (image .entry)) (now (seed .entry)) span (now (weights .entry)))
+        × (now (value .exit) ≡ drawValue (now (image .entry)) (now (seed .entry)) span (now (weights .entry))
+        (now (value .entry))) ⌝ }
 {
     let mut base = [0u8; 32];
     let mut ready = [0u8; 32];
@@ -432,18 +321,14 @@ pub extern "C" fn rvn_draw(
         *seed,
         profile(span, weights),
     );
-    let r = pack_drawn(d);
-    if d.code != 0 {
-        return r;
-    }
-    *seed = d.seed;
-    *value = d.command.value;
-    r
+    leave(d, seed, value);
+    pack_drawn(d)
 }
 
 // ---- A drawn command, carried out
 
-// The draw of the machine that the bytes hold, and its step, in tables that are lent: they hold the state after it. The state is tested once.
+// The draw of the machine that the bytes hold, and its step, in tables that are lent: they hold the state after it.
+// The state is tested once.
 fn draw_step_on(
     image: &[u8],
     base: &mut [u8; 32],
@@ -459,9 +344,14 @@ fn draw_step_on(
     seed: u32,
     p: Profile,
 ) -> Carried
-    ensures { λ r. ⌜ (tables (now (base .exit)) (now (ready .exit)) (now (delayed .exit)) (now (held .exit)) (now (way .exit)) (now (until .exit)) (now (ceiling .exit)) (now (waiter .exit)) (now (clock .exit)) (now (started .exit)) ≡ behindRead (now (image .entry)) (tables (now (base .entry)) (now (ready .entry)) (now (delayed .entry)) (now (held .entry)) (now (way .entry)) (now (until .entry)) (now (ceiling .entry)) (now (waiter .entry)) (now (clock .entry)) (now (started .entry))) seed p) × (r ≡ drawnRead (now (image .entry)) seed p) ⌝ }
+    ensures { λ r. ⌜ (tables (now (base .exit)) (now (ready .exit)) (now (delayed .exit)) (now (held .exit))
+        (now (way .exit)) (now (until .exit)) (now (ceiling .exit)) (now (waiter .exit)) (now (clock .exit))
+        (now (started .exit)) ≡ behindRead (now (image .entry))
+        (tables (now (base .entry)) (now (ready .entry)) (now (delayed .entry)) (now (held .entry)) (now (way .entry))
+        (now (until .entry)) (now (ceiling .entry)) (now (waiter .entry)) (now (clock .entry)) (now (started .entry)))
+        seed p) × (r ≡ drawnRead (now (image .entry)) seed p) ⌝ }
 {
-    if !layout::read(
+    if !image_layout::read(
         image,
         base,
         ready,
@@ -510,7 +400,12 @@ fn draw_and_keep(
     seed: u32,
     p: Profile,
 ) -> Carried
-    ensures { λ r. ⌜ (r ≡ drawnRead (now (image .entry)) seed p) × (now (image .exit) ≡ kept (now (image .entry)) (behindRead (now (image .entry)) (tables (now (base .entry)) (now (ready .entry)) (now (delayed .entry)) (now (held .entry)) (now (way .entry)) (now (until .entry)) (now (ceiling .entry)) (now (waiter .entry)) (now (clock .entry)) (now (started .entry))) seed p) (drawnRead (now (image .entry)) seed p .answer)) ⌝ }
+    ensures { λ r. ⌜ (r ≡ drawnRead (now (image .entry)) seed p)
+        × (now (image .exit) ≡ imageLeft (now (image .entry))
+        (behindRead (now (image .entry))
+        (tables (now (base .entry)) (now (ready .entry)) (now (delayed .entry)) (now (held .entry)) (now (way .entry))
+        (now (until .entry)) (now (ceiling .entry)) (now (waiter .entry)) (now (clock .entry)) (now (started .entry)))
+        seed p) (drawnRead (now (image .entry)) seed p .answer)) ⌝ }
 {
     let carried = draw_step_on(
         image,
@@ -545,20 +440,9 @@ fn draw_and_keep(
     carried
 }
 
-fn wider(x: u32) -> u64
-    ensures { λ r. ⌜ (r ≡ x) × (r < 4294967296) ⌝ }
-{
-    x as u64
-}
-
-fn pack_both(d: Drawn, a: Answer) -> u64
-    ensures { λ r. ⌜ r ≡ packedDrawn d + 4294967296 * packed a ⌝ }
-{
-    wider(pack_drawn(d)) + 4294967296 * wider(pack(a))
-}
-
-// Draws a command for the machine of an image and carries it out: rvn_draw, then rvn_step of what is drawn, the state tested once. The answer is
-// that of rvn_draw + 4294967296 * that of rvn_step. A refused draw answers its code alone, and leaves image, seed and value.
+// Draws a command for the machine of an image and carries it out: rvn_draw, then rvn_step of what is drawn, the state
+// tested once. The answer is that of rvn_draw + 4294967296 * that of rvn_step. A refused draw answers its code alone,
+// and leaves image, seed and value.
 #[no_mangle]
 pub extern "C" fn rvn_draw_step(
     image: &mut [u8],
@@ -567,7 +451,11 @@ pub extern "C" fn rvn_draw_step(
     weights: &[u32],
     value: &mut u64,
 ) -> u64
-    ensures { λ r. ⌜ (r ≡ drawStepAnswer (now (image .entry)) (now (seed .entry)) span (now (weights .entry))) × (now (image .exit) ≡ drawStepImage (now (image .entry)) (now (seed .entry)) span (now (weights .entry))) × (now (seed .exit) ≡ drawSeed (now (image .entry)) (now (seed .entry)) span (now (weights .entry))) × (now (value .exit) ≡ drawValue (now (image .entry)) (now (seed .entry)) span (now (weights .entry)) (now (value .entry))) ⌝ }
+    ensures { λ r. ⌜ (r ≡ drawStepAnswer (now (image .entry)) (now (seed .entry)) span (now (weights .entry)))
+        × (now (image .exit) ≡ drawStepImage (now (image .entry)) (now (seed .entry)) span (now (weights .entry)))
+        × (now (seed .exit) ≡ drawSeed (now (image .entry)) (now (seed .entry)) span (now (weights .entry)))
+        × (now (value .exit) ≡ drawValue (now (image .entry)) (now (seed .entry)) span (now (weights .entry))
+        (now (value .entry))) ⌝ }
 {
     let mut base = [0u8; 32];
     let mut ready = [0u8; 32];
@@ -595,11 +483,7 @@ pub extern "C" fn rvn_draw_step(
         profile(span, weights),
     );
     let drawn = carried.drawn;
-    if drawn.code != 0 {
-        return wider(pack_drawn(drawn));
-    }
-    *seed = drawn.seed;
-    *value = drawn.command.value;
     let answer = carried.answer;
+    leave(drawn, seed, value);
     pack_both(drawn, answer)
 }

@@ -1,4 +1,4 @@
 // The program judge, over standard input.
 fn main() {
-    programs::judge::run(libc::STDIN_FILENO);
+    programs_judge::run(libc::STDIN_FILENO);
 }

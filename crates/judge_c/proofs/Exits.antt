@@ -5,11 +5,11 @@ use mathlib.Core.Path.{_≡_, refl, ap, _∙_}
 use mathlib.Core.List.{List, [], _∷_}
 use borrow.Author.Tests.{eq-eqb}
 use lib.ListN.{length, getD, set, length-set}
-use Rattle.judging.specs.declared.Verdict.{Verdict}
-use Rattle.judging.specs.declared.Verdict.the-variants.{Agrees, Differs, Refused}
-use Rattle.judging.specs.Verdict.{verdict-of}
+use Rattle.judge_verdict.specs.declared.Verdict.{Verdict}
+use Rattle.judge_verdict.specs.declared.Verdict.the-variants.{Agrees, Differs, Refused}
+use Rattle.judge_verdict.specs.Verdict.{verdict-of}
 use Rattle.judge_c.specs.declared.Reply.{Reply}
-use Rattle.judge_c.specs.Call.{told-of, told, answer, numbers}
+use Rattle.judge_c.specs.Call.{reply-of, reply-to, answer, numbers}
 
 -- a store keeps the count
 pub third : (l : List ℕ) (w x : ℕ) → length l ≡ 4 → 2 < length (set (set l 0 w) 1 x)
@@ -27,17 +27,18 @@ four-stored (a ∷ (b ∷ (c ∷ (d ∷ [])))) w x y z e = refl
 four-stored (a ∷ (b ∷ (c ∷ (d ∷ (f ∷ l))))) w x y z e = absurd (omega arith)
 
 -- the four that are told are read off their list
-four-told : (seed : ℕ) (v : Verdict) → let n = told-of seed v .numbers in getD n 0 0 ∷ getD n 1 0 ∷ getD n 2 0 ∷ getD n 3 0 ∷ [] ≡ n
+four-told : (seed : ℕ) (v : Verdict) → let n = reply-of seed v .numbers in getD n 0 0 ∷ getD n 1 0 ∷ getD n 2 0 ∷ getD n 3 0 ∷ [] ≡ n
 four-told seed (Agrees k) = refl
 four-told seed (Differs d) = refl
 four-told seed (Refused e) = refl
 
-module _ (tape lent : List ℕ) (r : Reply) (e : r ≡ told (verdict-of tape)) (four : length lent ≡ 4) where
+module _ (tape lent : List ℕ) (r : Reply) (e : r ≡ reply-to (verdict-of tape)) (four : length lent ≡ 4) where
   pub answered : r .code ≡ answer tape lent
   unfolding answer
   answered = rw (eq-eqb (length lent) 4 four) (ap (λ (x : Reply). x .code) e)
 
-  pub written : set (set (set (set lent 0 (getD (r .numbers) 0 0)) 1 (getD (r .numbers) 1 0)) 2 (getD (r .numbers) 2 0)) 3 (getD (r .numbers) 3 0) ≡ numbers tape lent
+  pub written : set (set (set (set lent 0 (getD (r .numbers) 0 0)) 1 (getD (r .numbers) 1 0)) 2 (getD (r .numbers) 2 0)) 3 (getD (r .numbers) 3 0)
+      ≡ numbers tape lent
   unfolding numbers
   written =
       four-stored lent (getD (r .numbers) 0 0) (getD (r .numbers) 1 0) (getD (r .numbers) 2 0) (getD (r .numbers) 3 0) four

@@ -1,14 +1,16 @@
 // The judge of tapes for C hosts: a host lends a whole tape, and four numbers to be told in.
 //
-// docs/JUDGE-C.md has the call for a host's author, and specs/Call says what it answers and leaves. A tape of every length, whatever it holds,
-// gets an answer, and so does every count of numbers: the exported function has no `requires`.
+// docs/JUDGE-C.md has the call for a host's author, and specs/Call says what it answers and leaves. A tape of every
+// length, whatever it holds, gets an answer, and so does every count of numbers: the exported function has no
+// `requires`.
 ghost use mathlib.Core.Path.{_≡_};
 ghost use Prim.Native.Nat.{_<_};
+ghost use Rattle.record_kept.specs.Kept.{packed};
 ghost use Rattle.judge_c.specs.Call as call;
-use judging::Answer;
 use judging::Judgement;
 use judging::Verdict;
 use judging::judged;
+use record_kept::Kept;
 
 // What C is told of a judgement: the answer of the call, and the numbers that it writes.
 struct Reply {
@@ -22,17 +24,15 @@ fn wide(x: u8) -> u32
     x as u32
 }
 
-// As rvn_step packs an answer. (Not crate image's own function: each library exports its own calls alone, so that one host links both.)
-fn pack(a: Answer) -> u64
-    ensures { λ r. ⌜ r ≡ call.packed a ⌝ }
+// What is kept of an answer in one number, as rvn_step packs it.
+fn pack(k: Kept) -> u64
+    ensures { λ r. ⌜ r ≡ packed k ⌝ }
 {
-    let running = a.running;
-    let released = a.released;
-    (wide(a.code) + 256 * wide(running.0) + 65536 * wide(released.0)) as u64
+    record_kept::pack(k) as u64
 }
 
-fn told(j: Judgement) -> Reply
-    ensures { λ r. ⌜ r ≡ call.told j ⌝ }
+fn reply_to(j: Judgement) -> Reply
+    ensures { λ r. ⌜ r ≡ call.reply-to j ⌝ }
 {
     let seed = j.seed;
     let verdict = j.verdict;
@@ -52,16 +52,17 @@ fn told(j: Judgement) -> Reply
     }
 }
 
-// Judges a tape, which it only reads: 0 where it agrees, 255 where it differs, 15 or 17 where it is refused. Four numbers are written; where
-// not four are lent, the answer is 1 and none is.
+// Judges a tape, which it only reads: 0 where it agrees, 255 where it differs, 15 or 17 where it is refused. Four
+// numbers are written; where not four are lent, the answer is 1 and none is.
 #[no_mangle]
 pub extern "C" fn rvn_judge(tape: &[u8], verdict: &mut [u64]) -> u32
-    ensures { λ r. ⌜ (r ≡ call.answer (now (tape .entry)) (now (verdict .entry))) × (now (verdict .exit) ≡ call.numbers (now (tape .entry)) (now (verdict .entry))) ⌝ }
+    ensures { λ r. ⌜ (r ≡ call.answer (now (tape .entry)) (now (verdict .entry)))
+        × (now (verdict .exit) ≡ call.numbers (now (tape .entry)) (now (verdict .entry))) ⌝ }
 {
     if verdict.len() != 4 {
         return 1;
     }
-    let t = told(judged(tape));
+    let t = reply_to(judged(tape));
     let numbers = t.numbers;
     verdict[0] = numbers[0];
     verdict[1] = numbers[1];

@@ -13,7 +13,7 @@ fn one_tape(i: u8) -> bool {
     io::write_all(libc::STDOUT_FILENO, b"file ");
     io::write_all(libc::STDOUT_FILENO, &name);
     io::write_all(libc::STDOUT_FILENO, b"\n");
-    programs::judge::run(fd);
+    programs_judge::run(fd);
     libc::close(fd);
     true
 }

@@ -1,96 +1,23 @@
 // The records of a piece, judged on the machine's tables: each command is carried out where they lie.
 ghost use mathlib.Core.Path.{_≡_};
 ghost use Rattle.kernel.specs.Step.{tables};
-ghost use Rattle.judging.specs.Verdict as verdict;
 ghost use Rattle.judging.specs.Pieces as pieces;
 ghost use Rattle.judging.specs.Pieces.{run-of};
-use crate::Difference;
 use crate::Run;
-use crate::Stage;
-use crate::Verdict;
-use crate::refused_at;
-use kernel::Answer;
-use kernel::Command;
+use judge_record::Head;
+use judge_record::Stage;
+use judge_record::command_of;
+use judge_record::compared;
+use judge_record::headed;
+use judge_record::refused;
 use kernel::Kernel;
-use kernel::TaskID;
 use kernel::in_place::step_trusting;
-use record::Record;
+use record::RECORD_BYTES;
 use record::choose;
 use record::fault;
 use record::is_marked;
 use record::record_of;
-
-// Where a judge stands beside its machine: all of a run but the tables.
-pub(crate) struct Head {
-    pub(crate) place: usize,
-    pub(crate) seed: u64,
-    pub(crate) stage: Stage,
-}
-
-fn same(x: Answer, y: Answer) -> bool
-    ensures { λ r. ⌜ r ≡ verdict.same x y ⌝ }
-{
-    (x.code == y.code) & (x.running.0 == y.running.0) & (x.released.0 == y.released.0)
-}
-
-// The place behind a record. The last places of 64 bits are followed by themselves: no tape is so long.
-fn beyond(place: usize) -> usize
-    ensures { λ r. ⌜ r ≡ pieces.beyond place ⌝ }
-{
-    if place < 18446744073709551600 {
-        place + 16
-    } else {
-        place
-    }
-}
-
-fn seed_shown(code: u8, value: u64, seed: u64) -> u64
-    ensures { λ r. ⌜ r ≡ verdict.seed-shown code value seed ⌝ }
-{
-    if code == 17 { value } else { seed }
-}
-
-fn command_of(t: Record) -> Command
-    ensures { λ r. ⌜ r ≡ verdict.command-shown t ⌝ }
-{
-    Command {
-        op: t.op,
-        a: t.a,
-        b: t.b,
-        value: t.value,
-    }
-}
-
-// Behind a command record, whose answer by the rules is there: on to the next place, or the first that differs.
-fn compared(h: Head, t: Record, rules: Answer) -> Head
-    ensures { λ r. ⌜ r ≡ pieces.compared h t rules ⌝ }
-{
-    let place = h.place;
-    let tape = Answer {
-        code: t.code,
-        running: TaskID(t.running),
-        released: TaskID(t.released),
-    };
-    if !same(tape, rules) {
-        let number = place >> 4;
-        let found = Verdict::Differs(Difference {
-            number,
-            command: command_of(t),
-            tape,
-            rules,
-        });
-        return Head {
-            place,
-            seed: h.seed,
-            stage: Stage::Over(found),
-        };
-    }
-    Head {
-        place: beyond(place),
-        seed: h.seed,
-        stage: Stage::Going,
-    }
-}
+use record_kept::kept_of;
 
 // The next 16 bytes. 15 and 17 come before any judgement of the record; behind a verdict nothing is looked at.
 // From Judge::fresh on the tables are always sound (proofs/Whole), so the step does not test them. Of tables that
@@ -110,7 +37,13 @@ fn onward(
     h: Head,
     p: &[u8],
 ) -> Head
-    ensures { λ r. ⌜ run-of (tables (now (base .exit)) (now (ready .exit)) (now (delayed .exit)) (now (held .exit)) (now (way .exit)) (now (until .exit)) (now (ceiling .exit)) (now (waiter .exit)) (now (clock .exit)) (now (started .exit))) r ≡ pieces.onward (run-of (tables (now (base .entry)) (now (ready .entry)) (now (delayed .entry)) (now (held .entry)) (now (way .entry)) (now (until .entry)) (now (ceiling .entry)) (now (waiter .entry)) (now (clock .entry)) (now (started .entry))) h) (now (p .entry)) ⌝ }
+    ensures { λ r. ⌜ run-of (tables (now (base .exit)) (now (ready .exit)) (now (delayed .exit)) (now (held .exit))
+        (now (way .exit)) (now (until .exit)) (now (ceiling .exit)) (now (waiter .exit)) (now (clock .exit))
+        (now (started .exit))) r
+        ≡ pieces.onward (run-of
+        (tables (now (base .entry)) (now (ready .entry)) (now (delayed .entry)) (now (held .entry)) (now (way .entry))
+        (now (until .entry)) (now (ceiling .entry)) (now (waiter .entry)) (now (clock .entry)) (now (started .entry)))
+        h) (now (p .entry)) ⌝ }
 {
     let stage = h.stage;
     let Stage::Going = stage else {
@@ -120,19 +53,10 @@ fn onward(
     let t = record_of(p);
     let code = choose(is_marked(p), fault(place, t), 15);
     if code != 0 {
-        return Head {
-            place,
-            seed: seed_shown(code, t.value, h.seed),
-            stage: Stage::Over(refused_at(code, place)),
-        };
+        return refused(h, code, t.value);
     }
-    // The header: its seed is kept to be shown.
     if place == 0 {
-        return Head {
-            place: beyond(place),
-            seed: t.value,
-            stage: Stage::Going,
-        };
+        return headed(h, t.value);
     }
     let rules = step_trusting(
         base,
@@ -147,7 +71,7 @@ fn onward(
         started,
         command_of(t),
     );
-    compared(h, t, rules)
+    compared(h, t, kept_of(rules))
 }
 
 // The records that lie whole in a piece, from its start on. The machine comes as its tables, and each record is judged
@@ -166,11 +90,13 @@ pub(crate) fn records(
     mut head: Head,
     piece: &[u8],
 ) -> Run
-    ensures { λ r. ⌜ r ≡ pieces.through (run-of (tables base ready delayed held way until ceiling waiter clock started) head) (now (piece .entry)) .run ⌝ }
+    ensures { λ r. ⌜ r ≡ pieces.through
+        (run-of (tables base ready delayed held way until ceiling waiter clock started) head)
+        (now (piece .entry)) .run ⌝ }
 {
     let mut at = 0;
-    while 16 <= piece.len() - at {
-        let end = at + 16;
+    while RECORD_BYTES <= piece.len() - at {
+        let end = at + RECORD_BYTES;
         head = onward(
             &mut base,
             &mut ready,

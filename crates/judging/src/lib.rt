@@ -1,56 +1,31 @@
-// Judges a tape of document 01: runs its commands from the fresh machine, and says whether the answers on the tape are the rules'.
+// Judges a tape of document 01: runs its commands from the fresh machine, and says whether the answers on the tape are
+// the rules'.
 //
-// `judged` judges a whole tape. A `Judge` is fed a tape in pieces, cut anywhere, and says the same. No public function has a `requires`, and
-// every state gets an answer, whoever made it. specs/ says what each answer is: Verdict of a whole tape, Pieces of its pieces.
+// `judged` judges a whole tape. A `Judge` is fed a tape in pieces, cut anywhere, and says the same. No public function
+// has a `requires`, and every state gets an answer, whoever made it. What each answer is: judge_verdict/specs/Verdict
+// says of a whole tape, specs/Pieces of its pieces.
 ghost use mathlib.Core.Path.{_≡_};
 ghost use mathlib.Core.List.{_++_};
 ghost use Prim.Native.Nat.{_≤_, min};
 ghost use lib.ListN.{take, getD};
 ghost use Rattle.kernel.specs.View.{pad};
-ghost use Rattle.judging.specs.Verdict as verdict;
+ghost use Rattle.judge_verdict.specs.Verdict as verdict;
+ghost use Rattle.judge_record.specs.Behind as behind;
 ghost use Rattle.judging.specs.Pieces as pieces;
 
 mod in_place;
 
-use in_place::Head;
-pub use kernel::Answer;
-pub use kernel::Command;
+use judge_record::Head;
+pub use judge_record::Stage;
+use judge_record::at_end;
+pub use judge_verdict::Command;
+pub use judge_verdict::Difference;
+pub use judge_verdict::Judgement;
+pub use judge_verdict::Kept;
+pub use judge_verdict::Refusal;
+pub use judge_verdict::Verdict;
 pub use kernel::Kernel;
-
-// The first record that differs: its number (the header is 0), its command, the answer on the tape, and the rules'.
-pub struct Difference {
-    pub number: usize,
-    pub command: Command,
-    pub tape: Answer,
-    pub rules: Answer,
-}
-
-// 15 or 17 as the reader gives them, the record's number, and its byte place.
-pub struct Refusal {
-    pub code: u8,
-    pub number: usize,
-    pub place: usize,
-}
-
-pub enum Verdict {
-    // every answer is the rules': the number of command records
-    Agrees(usize),
-    Differs(Difference),
-    Refused(Refusal),
-}
-
-// The header's seed, and the verdict. Of a header that is refused for its seed (17) that is shown too; where there is no header it is 0.
-pub struct Judgement {
-    pub seed: u64,
-    pub verdict: Verdict,
-}
-
-pub enum Stage {
-    // all is right so far
-    Going,
-    // the verdict is there, and no record is looked at any more
-    Over(Verdict),
-}
+use record::RECORD_BYTES;
 
 // The records judged so far: the machine behind them, and the place of the next one, which is 16 times its number.
 pub struct Run {
@@ -65,16 +40,6 @@ pub struct Judge {
     pub run: Run,
     pub held: [u8; 16],
     pub count: usize,
-}
-
-pub(crate) fn refused_at(code: u8, place: usize) -> Verdict
-    ensures { λ r. ⌜ r ≡ pieces.refused-at code place ⌝ }
-{
-    Verdict::Refused(Refusal {
-        code,
-        number: place >> 4,
-        place,
-    })
 }
 
 impl Run {
@@ -120,7 +85,7 @@ impl Run {
         ensures { λ r. ⌜ r ≡ pieces.through self (now (piece .entry)) ⌝ }
     {
         let run = self.records(piece);
-        let at = 16 * (piece.len() >> 4);
+        let at = RECORD_BYTES * (piece.len() >> 4);
         let held = together([0; 16], 0, &piece[at..]);
         Judge {
             run,
@@ -161,27 +126,11 @@ fn together(held: [u8; 16], n: usize, piece: &[u8]) -> [u8; 16]
 {
     let mut out = [0; 16];
     let mut i = 0;
-    while i < 16 {
+    while i < RECORD_BYTES {
         out[i] = byte_of(held, n, piece, i);
         i += 1;
     }
     out
-}
-
-// A record that is not whole is 15, and so is a tape without a header.
-fn at_end(stage: Stage, place: usize, count: usize) -> Verdict
-    ensures { λ r. ⌜ r ≡ pieces.at-end stage place count ⌝ }
-{
-    match stage {
-        Stage::Over(v) => v,
-        Stage::Going => {
-            if (place < 16) | (count != 0) {
-                return refused_at(15, place);
-            }
-            let commands = (place >> 4) - 1;
-            Verdict::Agrees(commands)
-        }
-    }
 }
 
 impl Judge {
@@ -211,7 +160,7 @@ impl Judge {
         let held = self.held;
         let first = together(held, n, piece);
         let run = self.run;
-        let wanted = 16 - n;
+        let wanted = RECORD_BYTES - n;
         if piece.len() < wanted {
             return Judge {
                 run,
@@ -224,9 +173,10 @@ impl Judge {
         whole.through(&piece[wanted..])
     }
 
-    // Whether a verdict is still to come. Behind it no piece changes anything (proofs/Whole, verdict-stays), so nothing more need be read.
+    // Whether a verdict is still to come. Behind it no piece changes anything (proofs/Whole, verdict-stays), so
+    // nothing more need be read.
     pub fn goes_on(self) -> bool
-        ensures { λ r. ⌜ r ≡ pieces.to-come (self .run .stage) ⌝ }
+        ensures { λ r. ⌜ r ≡ behind.to-come (self .run .stage) ⌝ }
     {
         let run = self.run;
         let stage = run.stage;

@@ -2,17 +2,17 @@
 use Prim.Native.Nat.{ℕ}
 use mathlib.Core.Path.{_≡_, refl, _∙_}
 use mathlib.Core.Logic.{_≢_}
-use mathlib.Core.Bool.{cond}
 use borrow.Author.Tests.{eq-eqb, ne-eqb}
 use Rattle.rules.specs.declared.Kind.{Kind}
 use Rattle.rules.specs.declared.Kind.the-variants.{NoKind, Creating, Declaring, Starting, Delaying, Waking, Advancing, Opening, Entering, Ending}
 use Rattle.rules.specs.Machine.{Machine, Command}
 use Rattle.rules.specs.Kinds.{kind}
 use Rattle.rules.specs.Refusals.{refusal}
-use Rattle.checks.specs.Shown.{shown, refusal-as}
+use Rattle.kernel_checks.specs.Shown.{shown, refusal-as}
 use Rattle.kernel.specs.declared.Kernel.{Kernel}
 use Rattle.kernel.specs.View.{view}
-use Rattle.kernel.specs.Step.{first, refused, carriedAs, steppedOf}
+use Rattle.kernel.specs.Public.{runningOf}
+use Rattle.kernel.specs.Step.{refused, carriedAs, steppedOf}
 
 -- what the checks are shown of the tables
 abbrev pub shown-of : Kernel → Machine
@@ -40,7 +40,7 @@ module _ (k : Kernel) (c : Command) (n : ℕ) (e : n ≡ refusal-as (kind c) (sh
   found : n ≡ refusal (view k) c
   found = e ∙ same-checks (kind c) k c ∙ whole k c
 
-  pub refused-end : n ≢ 0 → record { next = k; answer = refused n (cond (k .started) (first k) 0) } ≡ steppedOf k c
+  pub refused-end : n ≢ 0 → record { next = k; answer = refused n (runningOf k) } ≡ steppedOf k c
   unfolding steppedOf
   refused-end h = rw (← found, ne-eqb n 0 h)
 

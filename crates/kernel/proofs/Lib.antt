@@ -3,13 +3,13 @@ pub mod Round
 pub mod Written
 pub mod Rows
 pub mod Whole
-pub mod Asked
+pub mod WakesLeft
 pub mod Reading
 pub mod Marks
 pub mod Standing
 pub mod Passed
 pub mod Tested
-pub mod Question
+pub mod WakesLeftCases
 pub mod Ends
 pub mod Ways
 pub mod Single

@@ -13,7 +13,8 @@ use Rattle.rules.specs.Line.{at, count, place, front, one-if}
 use Rattle.rules.specs.Machine.{tasks}
 use Rattle.rules.proofs.Words.{All}
 use Rattle.rules.proofs.Tests.{both-true}
-use Rattle.line.specs.Tables.{ended, zeros}
+use Rattle.kernel_line.specs.Tables.{zeros}
+use Rattle.kernel_order.specs.Order.{ended}
 use Rattle.kernel.specs.View.{live, with-idle, timed, nobody-or, pad, times}
 
 -- The sizes, and what stands behind the end.
@@ -150,8 +151,10 @@ times-timed u (x ∷ l) t h = go (eqb t x) refl (times-timed u l t h)
     none : (n : ℕ) → 0 + n ≡ n
     none n = omega arith
 
-    go : (b : Bool) → eqb t x ≡ b → at (times (timed u l)) t ≡ cond (leb 1 (count t l)) (at u t) 0 → at (set (times (timed u l)) x (at u x)) t ≡ cond (leb 1 (one-if b + count t l)) (at u t) 0
-    go true e ih = rw (← eqb-true t x e, le-leb 1 (1 + count t l) (omega arith)) (getD-set-same (times (timed u l)) t (at u t) 0 (omega (arith, times-size (timed u l))))
+    go : (b : Bool) → eqb t x ≡ b → at (times (timed u l)) t ≡ cond (leb 1 (count t l)) (at u t) 0
+        → at (set (times (timed u l)) x (at u x)) t ≡ cond (leb 1 (one-if b + count t l)) (at u t) 0
+    go true e ih =
+        rw (← eqb-true t x e, le-leb 1 (1 + count t l) (omega arith)) (getD-set-same (times (timed u l)) t (at u t) 0 (omega (arith, times-size (timed u l))))
     go false e ih = rw (none (count t l)) (getD-set-other (times (timed u l)) x t (at u x) 0 (eqb-false t x e) ∙ ih)
 
 -- Each delayed task is one of 1..31, and stands once.
@@ -163,21 +166,25 @@ others-right : (t v : ℕ) (u : List ℕ) (l : List (ℕ × ℕ)) → count t (t
 others-right t v u [] h k = tt
 others-right t v u (e ∷ l) h k = go (eqb t (e .1)) refl h (others-right t v u l)
   where
-    go : (q : Bool) → eqb t (e .1) ≡ q → one-if q + count t (tasks l) ≡ 0 → (count t (tasks l) ≡ 0 → All (Right u) l → All (Right (set u t v)) l) → All (Right (set u t v)) (e ∷ l)
+    go : (q : Bool) → eqb t (e .1) ≡ q → one-if q + count t (tasks l) ≡ 0 → (count t (tasks l) ≡ 0 → All (Right u) l → All (Right (set u t v)) l)
+        → All (Right (set u t v)) (e ∷ l)
     go true q h ih = absurd (omega arith)
     go false q h ih = ((getD-set-other u t (e .1) v 0 (λ w. eqb-false _ _ q (sym w)) ∙ k .0 .0, k .0 .1), ih (omega arith) (k .1))
 
 pub own-right : (l : List (ℕ × ℕ)) → Own l → All (Right (times l)) l
 own-right [] h = tt
-own-right (e ∷ l) h =
-    ((getD-set-same (times l) (e .1) (e .0) 0 (let z : e .1 < 32 = h .0 .1 in omega (arith, times-size l)), h .0 .2), others-right (e .1) (e .0) (times l) l (h .0 .0) (own-right l (h .1)))
+own-right (e ∷ l) h = (
+  (getD-set-same (times l) (e .1) (e .0) 0 (let z : e .1 < 32 = h .0 .1 in omega (arith, times-size l)), h .0 .2),
+  others-right (e .1) (e .0) (times l) l (h .0 .0) (own-right l (h .1)),
+)
 
 -- A task placed, and the first taken off.
 pub times-place : (stop : ℕ × ℕ → Bool) (v t : ℕ) (l : List (ℕ × ℕ)) → count t (tasks l) ≡ 0 → times (place stop (v, t) l) ≡ set (times l) t v
 times-place stop v t [] h = refl
 times-place stop v t (e ∷ l) h = go (eqb t (e .1)) refl (stop e) h (times-place stop v t l)
   where
-    go : (q : Bool) → eqb t (e .1) ≡ q → (b : Bool) → one-if q + count t (tasks l) ≡ 0 → (count t (tasks l) ≡ 0 → times (place stop (v, t) l) ≡ set (times l) t v)
+    go : (q : Bool) → eqb t (e .1) ≡ q → (b : Bool) → one-if q + count t (tasks l) ≡ 0
+        → (count t (tasks l) ≡ 0 → times (place stop (v, t) l) ≡ set (times l) t v)
         → times (cond b ((v, t) ∷ e ∷ l) (e ∷ place stop (v, t) l)) ≡ set (times (e ∷ l)) t v
     go true q b h ih = absurd (omega arith)
     go false q true h ih = refl

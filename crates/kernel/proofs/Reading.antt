@@ -114,7 +114,8 @@ pub wait-count : (t : ℕ) → t ≢ 0 → (w : List ℕ) → waits t (map nobod
 wait-count t n [] = refl
 wait-count t n (x ∷ w) = go (eqb x 0) refl (wait-count t n w)
   where
-    go : (b : Bool) → eqb x 0 ≡ b → waits t (map nobody-or w) ≡ count t w → count t (cond b [] (x ∷ [])) + waits t (map nobody-or w) ≡ one-if (eqb t x) + count t w
+    go : (b : Bool) → eqb x 0 ≡ b → waits t (map nobody-or w) ≡ count t w
+        → count t (cond b [] (x ∷ [])) + waits t (map nobody-or w) ≡ one-if (eqb t x) + count t w
     go true e ih = let z : one-if (eqb t x) ≡ 0 = rw (ne-eqb t x (λ q. n (q ∙ eqb-true x 0 e))) in omega arith
     go false e ih = omega arith
 

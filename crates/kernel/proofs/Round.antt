@@ -11,62 +11,87 @@ use lib.Seq.{ext-getD}
 use lib.Dec.{eqb, leb}
 use borrow.Author.Tests.{eqb-true, eqb-false, ne-eqb, leb-false}
 use Rattle.rules.specs.Line.{at, count, one-if}
-use Rattle.rules.specs.Machine.{Machine, active, tasks}
+use Rattle.rules.specs.Machine.{Machine, task-count, object-count, active, tasks}
 use Rattle.rules.specs.Sound.{standings, waits}
-use Rattle.rules.proofs.Words.{All, Pairwise}
-use Rattle.line.specs.Tables.{ended}
+use Rattle.rules.proofs.Words.{All, Pairwise, Free, Holding}
+use Rattle.kernel_order.specs.Order.{ended}
 use Rattle.rules.proofs.Lists.{all-map, all-both, all-standing, eq-or-ne, one-self, waits-at}
-use Rattle.rules.proofs.Tests.{Tests, tests-is, tests-le, tests-eq, tests-map, tests-and, tests-or, tests-all-below}
-use Rattle.rules.proofs.Sounds.{Sound, act-free, act-held, once, known, based, ready-few, delay-few}
+use Rattle.rules.proofs.Tests.{Tests, tests-is, tests-le, tests-eq, tests-field, tests-record, tests-or, tests-all-below}
+use Rattle.rules.proofs.Hands.{act-free, act-held, free-or-holding}
+use Rattle.rules.proofs.Sounds.{Sound, once, known, based, ready-few, delay-few}
 use Rattle.kernel.specs.declared.Kernel.{Kernel}
-use Rattle.kernel.specs.View.{live, with-idle, timed, pad, times, encode, view, tidy}
-use Rattle.kernel.proofs.Padded.{pad-ready, pad-live, live-pad, timed-right, tasks-timed, times-size, times-timed, Own, own-right, front-waiting, waiting-front}
+use Rattle.kernel.specs.View.{live, with-idle, timed, pad, times, encode, view, sized, tidy}
+use Rattle.kernel.proofs.Padded.{pad-ready, pad-live, live-pad, timed-right, tasks-timed, times-size, times-timed, Own, own-right, front-waiting}
+use Rattle.kernel.proofs.Padded.{waiting-front}
 
--- What tidy says.
+-- What tidy says: the sizes of the tables, and what they hold.
+pub record Sizes (k : Kernel) : Type 0 where
+  pub base : length (k .base) ≡ task-count
+  pub ready : length (k .ready) ≡ task-count
+  pub delayed : length (k .delayed) ≡ task-count
+  pub held : length (k .held) ≡ task-count
+  pub way : length (k .way) ≡ task-count
+  pub until : length (k .until) ≡ task-count
+  pub ceiling : length (k .ceiling) ≡ object-count
+  pub waiter : length (k .waiter) ≡ object-count
+
+tests-sized : (k : Kernel) → Tests (sized k) (Sizes k)
+tests-sized k =
+    tests-field (tests-eq _ task-count) (λ z. z .base) λ base.
+    tests-field (tests-eq _ task-count) (λ z. z .ready) λ ready.
+    tests-field (tests-eq _ task-count) (λ z. z .delayed) λ delayed.
+    tests-field (tests-eq _ task-count) (λ z. z .held) λ held.
+    tests-field (tests-eq _ task-count) (λ z. z .way) λ way.
+    tests-field (tests-eq _ task-count) (λ z. z .until) λ until.
+    tests-field (tests-eq _ object-count) (λ z. z .ceiling) λ ceiling.
+    tests-field (tests-eq _ object-count) (λ z. z .waiter) λ waiter.
+    tests-record (record { base = base; ready = ready; delayed = delayed; held = held; way = way; until = until; ceiling = ceiling; waiter = waiter })
+
 pub record Tidy (k : Kernel) : Type 0 where
-  pub base : length (k .base) ≡ 32
-  pub ready : length (k .ready) ≡ 32
-  pub delayed : length (k .delayed) ≡ 32
-  pub held : length (k .held) ≡ 32
-  pub way : length (k .way) ≡ 32
-  pub until : length (k .until) ≡ 32
-  pub ceiling : length (k .ceiling) ≡ 8
-  pub waiter : length (k .waiter) ≡ 8
+  pub sizes : Sizes k
   pub ready-ended : ended (k .ready) ≡ true
   pub delayed-ended : ended (k .delayed) ≡ true
-  pub untimed : (t : ℕ) → t < 32 → (at (k .until) t ≡ 0 → ⊥) → 1 ≤ count t (live (k .delayed))
+  pub untimed : (t : ℕ) → t < task-count → at (k .until) t ≢ 0 → 1 ≤ count t (live (k .delayed))
 
 pub tests-tidy : (k : Kernel) → Tests (tidy k) (Tidy k)
 unfolding tidy
 tests-tidy k =
-    tests-map
-    (λ w. record { base = w .0 .0 .0 .0 .0 .0 .0 .0 .0 .0; ready = w .0 .0 .0 .0 .0 .0 .0 .0 .0 .1; delayed = w .0 .0 .0 .0 .0 .0 .0 .0 .1; held = w .0 .0 .0 .0 .0 .0 .0 .1; way = w .0 .0 .0 .0 .0 .0 .1; until = w .0 .0 .0 .0 .0 .1; ceiling = w .0 .0 .0 .0 .1; waiter = w .0 .0 .0 .1; ready-ended = w .0 .0 .1; delayed-ended = w .0 .1; untimed = w .1 })
-    (λ t. ((((((((((t .base, t .ready), t .delayed), t .held), t .way), t .until), t .ceiling), t .waiter), t .ready-ended), t .delayed-ended), t .untimed))
-    (tests-and (tests-and (tests-and (tests-and (tests-and (tests-and (tests-and (tests-and (tests-and (tests-and (tests-eq _ 32) (tests-eq _ 32)) (tests-eq _ 32)) (tests-eq _ 32)) (tests-eq _ 32)) (tests-eq _ 32)) (tests-eq _ 8)) (tests-eq _ 8))
-    (tests-is (ended (k .ready)))) (tests-is (ended (k .delayed)))) (tests-all-below (λ t. tests-or (tests-eq (at (k .until) t) 0) (tests-le 1 (count t (live (k .delayed))))) 32))
+    tests-field (tests-sized k) (λ z. z .sizes) λ sizes.
+    tests-field (tests-is (ended (k .ready))) (λ z. z .ready-ended) λ ready.
+    tests-field (tests-is (ended (k .delayed))) (λ z. z .delayed-ended) λ delayed.
+    tests-field (tests-all-below (λ t. tests-or (tests-eq (at (k .until) t) 0) (tests-le 1 (count t (live (k .delayed))))) task-count) (λ z. z .untimed)
+    λ untimed.
+    tests-record (record { sizes = sizes; ready-ended = ready; delayed-ended = delayed; untimed = untimed })
 
 -- Writing what was read.
 module _ (k : Kernel) (h : Tidy k) where
   until-back : times (timed (k .until) (live (k .delayed))) ≡ k .until
   until-back =
-      ext-getD 0 (times (timed (k .until) (live (k .delayed)))) (k .until) (size ∙ sym (h .until)) (λ t l. times-timed (k .until) (live (k .delayed)) t (omega (arith, size)) ∙ go t (omega (arith, size)) (leb 1 (count t (live (k .delayed)))) refl)
+      ext-getD 0 (times (timed (k .until) (live (k .delayed)))) (k .until) (size ∙ sym (h .sizes .until))
+      (λ t l. times-timed (k .until) (live (k .delayed)) t (omega (arith, size)) ∙ go t (omega (arith, size)) (leb 1 (count t (live (k .delayed)))) refl)
     where
       size : length (times (timed (k .until) (live (k .delayed)))) ≡ 32
       size = times-size (timed (k .until) (live (k .delayed)))
 
       go : (t : ℕ) → t < 32 → (b : Bool) → leb 1 (count t (live (k .delayed))) ≡ b → cond b (at (k .until) t) 0 ≡ at (k .until) t
       go t l true e = refl
-      go t l false e = sym (⊎-elim (λ (z : at (k .until) t ≡ 0). z) (λ (z : at (k .until) t ≢ 0). absurd (omega (arith, h .untimed t l z, leb-false 1 (count t (live (k .delayed))) e))) (eq-or-ne (at (k .until) t) 0))
+      go t l false e =
+          sym
+          (⊎-elim (λ (z : at (k .until) t ≡ 0). z)
+          (λ (z : at (k .until) t ≢ 0). absurd (omega (arith, h .untimed t l z, leb-false 1 (count t (live (k .delayed))) e))) (eq-or-ne (at (k .until) t) 0))
 
   pub encode-view : encode (view k) ≡ k
   unfolding encode view
   encode-view =
-      let r : pad 32 (with-idle (k .ready)) ≡ k .ready = subst (λ (n : ℕ). pad n (with-idle (k .ready)) ≡ k .ready) (h .ready) (pad-ready (k .ready) (h .ready-ended)) in
-      let d : pad 32 (live (k .delayed)) ≡ k .delayed = subst (λ (n : ℕ). pad n (live (k .delayed)) ≡ k .delayed) (h .delayed) (pad-live (k .delayed) (h .delayed-ended)) in
+      let r : pad 32 (with-idle (k .ready)) ≡ k .ready =
+      subst (λ (n : ℕ). pad n (with-idle (k .ready)) ≡ k .ready) (h .sizes .ready) (pad-ready (k .ready) (h .ready-ended)) in
+      let d : pad 32 (live (k .delayed)) ≡ k .delayed =
+      subst (λ (n : ℕ). pad n (live (k .delayed)) ≡ k .delayed) (h .sizes .delayed) (pad-live (k .delayed) (h .delayed-ended)) in
       rw (tasks-timed (k .until) (live (k .delayed)), r, d, until-back, front-waiting (k .waiter))
 
 -- Reading what was written. A line in order, in which idle stands once, ends with idle: all others have an active priority above 0.
-ready-pad : (act : ℕ → ℕ) (n : ℕ) (l : List ℕ) → length l ≤ n → count 0 l ≡ 1 → Pairwise (λ x y. act y ≤ act x) l → act 0 ≡ 0 → ((t : ℕ) → 1 ≤ count t l → t ≢ 0 → 1 ≤ act t) → with-idle (pad n l) ≡ l
+ready-pad : (act : ℕ → ℕ) (n : ℕ) (l : List ℕ) → length l ≤ n → count 0 l ≡ 1 → Pairwise (λ x y. act y ≤ act x) l → act 0 ≡ 0
+    → ((t : ℕ) → 1 ≤ count t l → t ≢ 0 → 1 ≤ act t) → with-idle (pad n l) ≡ l
 ready-pad act zero [] h o c z f = absurd (omega arith)
 ready-pad act zero (x ∷ l) h o c z f = absurd (omega arith)
 ready-pad act (suc n) [] h o c z f = absurd (omega arith)
@@ -80,7 +105,8 @@ ready-pad act (suc n) (x ∷ l) h o c z f = go (eqb x 0) refl (ready-pad act n l
         let up : 1 ≤ act y = f y (omega (arith, one-self y)) ny in
         absurd (let w = a .0 in omega arith)
 
-    go : (b : Bool) → eqb x 0 ≡ b → (count 0 l ≡ 1 → Pairwise (λ x y. act y ≤ act x) l → act 0 ≡ 0 → ((t : ℕ) → 1 ≤ count t l → t ≢ 0 → 1 ≤ act t) → with-idle (pad n l) ≡ l)
+    go : (b : Bool) → eqb x 0 ≡ b
+        → (count 0 l ≡ 1 → Pairwise (λ x y. act y ≤ act x) l → act 0 ≡ 0 → ((t : ℕ) → 1 ≤ count t l → t ≢ 0 → 1 ≤ act t) → with-idle (pad n l) ≡ l)
         → cond b (0 ∷ []) (x ∷ with-idle (pad n l)) ≡ x ∷ l
     go true e ih =
         let q : x ≡ 0 = eqb-true x 0 e in
@@ -101,7 +127,7 @@ all-index P d (x ∷ l) f = (f 0 (omega arith), all-index P d l (λ i h. f (suc 
 module _ (m : Machine) (s : Sound m) where
   -- idle is ready, and so neither delayed nor waiting
   pub not-idle : (t : ℕ) → 1 ≤ count t (tasks (m .delay)) + waits t (m .queue) → t ≢ 0
-  not-idle t h e = let z : 1 ≤ count 0 (tasks (m .delay)) + waits 0 (m .queue) = rw e at h in omega (arith, once m s 0, s .idle-there)
+  not-idle t h e = let z : 1 ≤ count 0 (tasks (m .delay)) + waits 0 (m .queue) = rw e at h in omega (arith, once m s 0, s .idle-ready .idle-there)
 
   pub delayed-tasks : All (λ t. (t < 32) × (t ≢ 0)) (tasks (m .delay))
   delayed-tasks = all-standing (λ t. (t < 32) × (t ≢ 0)) (tasks (m .delay)) (λ t h. (known m s t (omega arith), not-idle t (omega arith)))
@@ -113,22 +139,26 @@ module _ (m : Machine) (s : Sound m) where
   sound-own = own (m .delay) (λ t. omega (arith, once m s t)) delayed-tasks
 
   pub act-zero : active m 0 ≡ 0
-  act-zero = act-free m 0 (s .idle-free) ∙ s .idle-base
+  act-zero = act-free m 0 (s .idle-ready .idle-free) ∙ s .idle-ready .idle-base
 
   -- a standing task that is not idle has an active priority
   pub act-some : (t : ℕ) → 1 ≤ standings m t → t ≢ 0 → 1 ≤ active m t
-  act-some t h n = go (eqb (at (m .held) t) 0) refl
-    where
-      go : (b : Bool) → eqb (at (m .held) t) 0 ≡ b → 1 ≤ active m t
-      go true e = omega (arith, act-free m t (eqb-true _ _ e), based m s t h n)
-      go false e = let w = s .holder-admitted t (known m s t h) (eqb-false _ _ e) in omega (arith, act-held m t (eqb-false _ _ e), based m s t h n, w .1)
+  act-some t h n =
+      ⊎-elim (λ (e : Free m t). omega (arith, act-free m t e, based m s t h n))
+      (λ (e : Holding m t). let w = s .all-admitted .holder-admitted t (known m s t h) e in omega (arith, act-held m t e, based m s t h n, w .1))
+      (free-or-holding m t)
 
   queue-back : All (λ l. (length l ≤ 1) × All (λ t. t ≢ 0) l) (m .queue)
-  queue-back = all-both (λ l. length l ≤ 1) (λ l. All (λ t. t ≢ 0) l) (m .queue) (s .waiters) (all-index (λ l. All (λ t. t ≢ 0) l) [] (m .queue) (λ o h. waiting-tasks o))
+  queue-back =
+      all-both (λ l. length l ≤ 1) (λ l. All (λ t. t ≢ 0) l) (m .queue) (s .one-each .waiters)
+      (all-index (λ l. All (λ t. t ≢ 0) l) [] (m .queue) (λ o h. waiting-tasks o))
 
   pub view-encode : view (encode m) ≡ m
   unfolding encode view
   view-encode =
-      let r : with-idle (pad 32 (m .ready)) ≡ m .ready = ready-pad (active m) 32 (m .ready) (ready-few m s) (omega (arith, once m s 0, s .idle-there)) (s .ready-falls) act-zero (λ t h n. act-some t (omega arith) n) in
-      let d : live (pad 32 (tasks (m .delay))) ≡ tasks (m .delay) = live-pad 32 (tasks (m .delay)) (delay-few m s) (all-map (λ t w. w .1) (tasks (m .delay)) delayed-tasks) in
+      let r : with-idle (pad 32 (m .ready)) ≡ m .ready =
+      ready-pad (active m) 32 (m .ready) (ready-few m s) (omega (arith, once m s 0, s .idle-ready .idle-there)) (s .in-order .ready-falls) act-zero
+      (λ t h n. act-some t (omega arith) n) in
+      let d : live (pad 32 (tasks (m .delay))) ≡ tasks (m .delay) =
+      live-pad 32 (tasks (m .delay)) (delay-few m s) (all-map (λ t w. w .1) (tasks (m .delay)) delayed-tasks) in
       rw (r, d, timed-right (times (m .delay)) (m .delay) (own-right (m .delay) sound-own), waiting-front (m .queue) queue-back)

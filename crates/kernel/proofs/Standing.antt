@@ -11,10 +11,11 @@ use Rattle.rules.specs.Line.{at, count, one-if}
 use Rattle.rules.specs.Sound.{standings}
 use Rattle.rules.proofs.Words.{All}
 use Rattle.rules.proofs.Lists.{count-snoc}
-use Rattle.line.specs.Tables.{marks, no-task}
+use Rattle.kernel_line.specs.Tables.{no-task}
+use Rattle.kernel_order.specs.Order.{marks}
 use Rattle.kernel.specs.declared.Kernel.{Kernel}
 use Rattle.kernel.specs.View.{live, view}
-use Rattle.soundness.specs.Test as table
+use Rattle.kernel_sound.specs.Test as table
 use Rattle.kernel.specs.Test.{placesOf}
 use Rattle.kernel.proofs.Padded.{free-at, tasks-timed}
 use Rattle.kernel.proofs.Reading.{idle-last, live-real, real-none, wait-count, wait-idle}
@@ -22,17 +23,34 @@ use Rattle.kernel.proofs.Marks as M
 use Rattle.kernel.proofs.Marks.{Spot, spot, line-marks, waiter-marks, tally}
 
 module _ (k : Kernel) where
-  -- how often a task stands, told by the tables
-  pub stand-count : (t : ℕ) → t ≢ 0 → standings (view k) t ≡ count t (live (k .ready)) + count t (live (k .delayed)) + count t (k .waiter)
+  -- the tasks of the two lines; how often a task stands, told by the tables; and where the marks put it
+  abbrev pub ready-line : List ℕ
+  ready-line = live (k .ready)
+
+  abbrev pub delay-line : List ℕ
+  delay-line = live (k .delayed)
+
+  abbrev pub in-all : ℕ → ℕ
+  in-all t = count t ready-line + count t delay-line + count t (k .waiter)
+
+  abbrev pub SpotOf : ℕ → Type 0
+  SpotOf t = Spot (count t ready-line) (count t delay-line) (count t (k .waiter)) (at (placesOf k) t)
+
+  pub stand-count : (t : ℕ) → t ≢ 0 → standings (view k) t ≡ in-all t
   unfolding view
-  stand-count t n = let z : one-if (eqb t 0) ≡ 0 = rw (ne-eqb t 0 n) in rw (idle-last (k .ready), tasks-timed (k .until) (live (k .delayed))) (omega (arith, count-snoc t (live (k .ready)) 0, wait-count t n (k .waiter)))
+  stand-count t n =
+      let z : one-if (eqb t 0) ≡ 0 = rw (ne-eqb t 0 n) in
+      rw (idle-last (k .ready), tasks-timed (k .until) delay-line) (omega (arith, count-snoc t ready-line 0, wait-count t n (k .waiter)))
 
   pub stand-idle : standings (view k) 0 ≡ 1
   unfolding view
-  stand-idle = rw (idle-last (k .ready), tasks-timed (k .until) (live (k .delayed))) (omega (arith, count-snoc 0 (live (k .ready)) 0, real-none (live (k .ready)) (live-real (k .ready)), real-none (live (k .delayed)) (live-real (k .delayed)), wait-idle (k .waiter)))
+  stand-idle =
+      let r = real-none ready-line (live-real (k .ready)) in
+      let d = real-none delay-line (live-real (k .delayed)) in
+      rw (idle-last (k .ready), tasks-timed (k .until) delay-line) (omega (arith, count-snoc 0 ready-line 0, r, d, wait-idle (k .waiter)))
 
 -- Where the marks put a task.
-module _ (k : Kernel) (ra : All (λ x. x < 32) (live (k .ready))) (da : All (λ x. x < 32) (live (k .delayed))) (wa : All (λ x. x < 32) (k .waiter)) where
+module _ (k : Kernel) (ra : All (λ x. x < 32) (ready-line k)) (da : All (λ x. x < 32) (delay-line k)) (wa : All (λ x. x < 32) (k .waiter)) where
   s0 : List ℕ
   s0 = replicate 32 0
 
@@ -50,9 +68,11 @@ module _ (k : Kernel) (ra : All (λ x. x < 32) (live (k .ready))) (da : All (λ 
   unfolding s2
   delay-marks = line-marks 2 (k .delayed) s1 da (ready-marks .0)
 
-  first-mark : (t : ℕ) → at s2 t ≡ tally 2 (tally 1 0 (count t (live (k .ready)))) (count t (live (k .delayed)))
+  first-mark : (t : ℕ) → at s2 t ≡ tally 2 (tally 1 0 (count t (ready-line k))) (count t (delay-line k))
   unfolding s0
-  first-mark t = delay-marks .1 t ∙ ap (λ (v : ℕ). tally 2 v (count t (live (k .delayed)))) (ready-marks .1 t ∙ ap (λ (v : ℕ). tally 1 v (count t (live (k .ready)))) (free-at 32 t))
+  first-mark t =
+      let e = ready-marks .1 t ∙ ap (λ (v : ℕ). tally 1 v (count t (ready-line k))) (free-at 32 t) in
+      delay-marks .1 t ∙ ap (λ (v : ℕ). tally 2 v (count t (delay-line k))) e
 
   idle-mark : at s2 0 ≡ 0
   unfolding tally
@@ -62,10 +82,13 @@ module _ (k : Kernel) (ra : All (λ x. x < 32) (live (k .ready))) (da : All (λ 
   unfolding table.places s0 s1 s2
   all-marks = waiter-marks 3 (k .waiter) s2 wa (delay-marks .0) idle-mark
 
-  pub mark-of : (t : ℕ) → t ≢ 0 → Spot (count t (live (k .ready))) (count t (live (k .delayed))) (count t (k .waiter)) (at (placesOf k) t)
+  pub mark-of : (t : ℕ) → t ≢ 0 → SpotOf k t
   mark-of t n =
-      let e : at (placesOf k) t ≡ tally 3 (tally 2 (tally 1 0 (count t (live (k .ready)))) (count t (live (k .delayed)))) (count t (k .waiter)) = all-marks .2 t n ∙ ap (λ (v : ℕ). tally 3 v (count t (k .waiter))) (first-mark t) in
-      rw e (spot (count t (live (k .ready))) (count t (live (k .delayed))) (count t (k .waiter)))
+      let r = count t (ready-line k) in
+      let d = count t (delay-line k) in
+      let w = count t (k .waiter) in
+      let e : at (placesOf k) t ≡ tally 3 (tally 2 (tally 1 0 r) d) w = all-marks .2 t n ∙ ap (λ (v : ℕ). tally 3 v w) (first-mark t) in
+      rw e (spot r d w)
 
   pub mark-idle : at (placesOf k) 0 ≡ 0
   mark-idle = all-marks .1

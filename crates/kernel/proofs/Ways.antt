@@ -8,21 +8,24 @@ use lib.Dec.{eqb, ltb}
 use lib.ListN.{set}
 use borrow.Author.Tests.{eqb-true}
 use Rattle.rules.specs.declared.Kind.{Kind}
-use Rattle.rules.specs.Line.{at}
 use Rattle.rules.specs.Machine.{Command, for-entry}
-use Rattle.line.specs.Tables.{place, pop, later, with-time}
-use Rattle.ops.specs.Moves.{waits-in, to-tail, served-line, closed-line}
+use Rattle.kernel_line.specs.Tables.{place, pop, later, with-time}
+use Rattle.kernel_ready.specs.Ready.{runner-in, popped, to-tail}
+use Rattle.kernel_ops.specs.Moves.{waits-in, served-line, closed-line}
 use Rattle.kernel.specs.declared.Kernel.{Kernel}
 use Rattle.kernel.specs.declared.Stepped.{Stepped}
-use Rattle.kernel.specs.Step.{tables, accepted, carriedAs, sleptOf, yieldedOf, advancedOf, wokenOf, heldOf, awaitingOf, servedOf, closedOf, closingOf, with-clock, grown}
+use Rattle.kernel.specs.Lent.{tables, Ends}
+use Rattle.kernel.specs.Public.{runningOf}
+use Rattle.kernel.specs.Step.{runnerOf, accepted, carriedAs, sleptOf, yieldedOf, advancedOf, wokenOf, heldOf, awaitingOf, servedOf, closedOf, closingOf}
+use Rattle.kernel.specs.Step.{with-clock, grown}
 
 -- tables and a released task are the state and the answer of a step
-abbrev pub Ends : Kernel → ℕ → Stepped → Type 0
-Ends k t s = (k ≡ s .next) × (accepted (k .started) (at (k .ready) 0) t ≡ s .answer)
+abbrev pub Carried : Kernel → ℕ → Stepped → Type 0
+Carried k t s = Ends k (accepted (runningOf k) t) s
 
 -- a command of a kind is carried out as that kind is
-pub as-kind : (j k : Kind) (m : Kernel) (c : Command) → k ≡ j → (n : Kernel) (t : ℕ) → Ends n t (carriedAs j m c) → Ends n t (carriedAs k m c)
-as-kind j k m c e n t g = subst (λ (i : Kind). Ends n t (carriedAs i m c)) (sym e) g
+pub as-kind : (j k : Kind) (m : Kernel) (c : Command) → k ≡ j → (n : Kernel) (t : ℕ) → Carried n t (carriedAs j m c) → Carried n t (carriedAs k m c)
+as-kind j k m c e n t g = subst (λ (i : Kind). Carried n t (carriedAs i m c)) (sym e) g
 
 either : (x : Bool) (n : ℕ) → cond x n n ≡ n
 either true n = refl
@@ -37,16 +40,16 @@ unfolding advancedOf
 still k = ap (λ (n : ℕ). with-clock k n) (unmoved (k .clock))
 
 module _ (k : Kernel) where
-  pub delays : (v : ℕ) (b : Bool) → Ends
-      (tables (k .base) (cond b (pop (k .ready)) (to-tail (k .base) (k .ceiling) (k .held) (at (k .ready) 0) (pop (k .ready))))
-      (cond b (place (later (k .until) v) (at (k .ready) 0) (k .delayed)) (k .delayed)) (k .held) (k .way)
-      (cond b (with-time (k .until) (at (k .ready) 0) v) (k .until)) (k .ceiling) (k .waiter) (k .clock) (k .started))
+  pub delays : (v : ℕ) (b : Bool) → Carried
+      (tables (k .base) (cond b (popped (k .ready)) (to-tail (k .base) (k .ceiling) (k .held) (runnerOf k) (popped (k .ready))))
+      (cond b (place (later (k .until) v) (runnerOf k) (k .delayed)) (k .delayed)) (k .held) (k .way)
+      (cond b (with-time (k .until) (runnerOf k) v) (k .until)) (k .ceiling) (k .waiter) (k .clock) (k .started))
       0 (cond b (sleptOf k v) (yieldedOf k))
   unfolding sleptOf yieldedOf
   delays v true = (refl, refl)
   delays v false = (refl, refl)
 
-  pub wakes : (t : ℕ) (b : Bool) → eqb t 0 ≡ b → Ends
+  pub wakes : (t : ℕ) (b : Bool) → eqb t 0 ≡ b → Carried
       (tables (k .base) (cond b (k .ready) (to-tail (k .base) (k .ceiling) (k .held) t (k .ready))) (cond b (k .delayed) (pop (k .delayed))) (k .held) (k .way)
       (cond b (k .until) (with-time (k .until) t 0)) (k .ceiling) (k .waiter) (k .clock) (k .started))
       t (cond b (advancedOf k 0) (wokenOf k t))
@@ -54,9 +57,9 @@ module _ (k : Kernel) where
   wakes t true e = (still k, rw (eqb-true t 0 e))
   wakes t false e = (refl, refl)
 
-  pub enters : (o : ℕ) (b : Bool) → Ends
-      (tables (k .base) (cond b (k .ready) (pop (k .ready))) (k .delayed) (cond b (set (k .held) (at (k .ready) 0) o) (k .held))
-      (cond b (set (k .way) (at (k .ready) 0) for-entry) (k .way)) (k .until) (k .ceiling) (cond b (k .waiter) (set (k .waiter) o (at (k .ready) 0)))
+  pub enters : (o : ℕ) (b : Bool) → Carried
+      (tables (k .base) (cond b (k .ready) (popped (k .ready))) (k .delayed) (cond b (set (k .held) (runnerOf k) o) (k .held))
+      (cond b (set (k .way) (runnerOf k) for-entry) (k .way)) (k .until) (k .ceiling) (cond b (k .waiter) (set (k .waiter) o (runnerOf k)))
       (k .clock) (k .started))
       0 (cond b (heldOf k o for-entry) (awaitingOf k o))
   unfolding heldOf awaitingOf
@@ -67,17 +70,20 @@ module _ (k : Kernel) where
   abbrev line : ℕ → Bool → List ℕ
   line t b = cond b (k .ready) (to-tail (k .base) (k .ceiling) (k .held) t (k .ready))
 
-  closes : (o t : ℕ) (b : Bool) → eqb t 0 ≡ b → Ends
-      (tables (k .base) (closed-line (k .base) (k .ceiling) (k .held) (line t b)) (k .delayed) (set (k .held) (at (line t b) 0) 0)
-      (set (k .way) (at (line t b) 0) 0) (k .until) (k .ceiling) (cond b (k .waiter) (set (k .waiter) o 0)) (k .clock) (k .started))
+  closes : (o t : ℕ) (b : Bool) → eqb t 0 ≡ b → Carried
+      (tables (k .base) (closed-line (k .base) (k .ceiling) (k .held) (line t b)) (k .delayed) (set (k .held) (runner-in (line t b)) 0)
+      (set (k .way) (runner-in (line t b)) 0) (k .until) (k .ceiling) (cond b (k .waiter) (set (k .waiter) o 0)) (k .clock) (k .started))
       t (cond b (closedOf k 0) (closedOf (servedOf k o t) t))
   unfolding closedOf servedOf
   closes o t true e = (refl, rw (eqb-true t 0 e))
   closes o t false e = (refl, refl)
 
   -- the end of a body, whoever waits
-  pub ending : (o : ℕ) (serves : Bool) → let t = waits-in (k .waiter) o serves in let l = served-line (k .base) (k .ceiling) (k .held) t (k .ready) in Ends
-      (tables (k .base) (closed-line (k .base) (k .ceiling) (k .held) l) (k .delayed) (set (k .held) (at l 0) 0) (set (k .way) (at l 0) 0) (k .until) (k .ceiling)
+  pub ending : (o : ℕ) (serves : Bool) →
+      let t = waits-in (k .waiter) o serves in
+      let l = served-line (k .base) (k .ceiling) (k .held) t (k .ready) in Carried
+      (tables (k .base) (closed-line (k .base) (k .ceiling) (k .held) l) (k .delayed) (set (k .held) (runner-in l) 0) (set (k .way) (runner-in l) 0) (k .until)
+      (k .ceiling)
       (cond (eqb t 0) (k .waiter) (set (k .waiter) o 0)) (k .clock) (k .started))
       t (closingOf k o serves)
   unfolding closingOf

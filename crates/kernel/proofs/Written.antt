@@ -14,7 +14,7 @@ use Rattle.rules.specs.Sound.{sound}
 use Rattle.rules.specs.Refusals.{refusal}
 use Rattle.rules.specs.Run.{next, answer}
 use Rattle.rules.proofs.Tests.{both-true}
-use Rattle.line.specs.Tables.{ended}
+use Rattle.kernel_order.specs.Order.{ended}
 use Rattle.rules.proofs.Lists.{lt-or-ge}
 use Rattle.rules.proofs.Sounds.{Sound, tests-sound}
 use Rattle.rules.proofs.Step.{next-sound}
@@ -36,17 +36,22 @@ module _ (m : Machine) (s : Sound m) where
   pub encode-tidy : Tidy (encode m)
   unfolding encode
   encode-tidy = record {
-    base = s .base-size;
-    ready = pad-size 32 (m .ready);
-    delayed = pad-size 32 (tasks (m .delay));
-    held = s .held-size;
-    way = s .way-size;
-    until = times-size (m .delay);
-    ceiling = s .ceiling-size;
-    waiter = length-map (m .queue) (front 0) ∙ s .queue-size;
+    sizes = record {
+      base = s .tables-sized .base-size;
+      ready = pad-size 32 (m .ready);
+      delayed = pad-size 32 (tasks (m .delay));
+      held = s .tables-sized .held-size;
+      way = s .tables-sized .way-size;
+      until = times-size (m .delay);
+      ceiling = s .tables-sized .ceiling-size;
+      waiter = length-map (m .queue) (front 0) ∙ s .tables-sized .queue-size;
+    };
     ready-ended = subst (λ (l : List ℕ). ended (pad 32 l) ≡ true) ready-back (ended-ready 32 (pad 32 (m .ready)));
     delayed-ended = subst (λ (l : List ℕ). ended (pad 32 l) ≡ true) delay-back (ended-live 32 (pad 32 (tasks (m .delay))));
-    untimed = λ t h n. rw delay-back (⊎-elim (λ (z : count t (tasks (m .delay)) < 1). absurd (n (times-absent t (m .delay) (omega arith)))) (λ (z : 1 ≤ count t (tasks (m .delay))). z) (lt-or-ge (count t (tasks (m .delay))) 1));
+    untimed = λ t h n.
+        rw delay-back
+        (⊎-elim (λ (z : count t (tasks (m .delay)) < 1). absurd (n (times-absent t (m .delay) (omega arith)))) (λ (z : 1 ≤ count t (tasks (m .delay))). z)
+        (lt-or-ge (count t (tasks (m .delay))) 1));
   }
 
   pub encode-sound : isSound (encode m) ≡ true

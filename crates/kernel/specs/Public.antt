@@ -1,7 +1,6 @@
 -- The step and the question "Wakes left" on tables, as the rules say it: what the public contracts cite.
 use Prim.Native.Nat.{ℕ}
 use mathlib.Core.Bool.{Bool, cond, _&&_}
-use Rattle.rules.specs.Line.{at}
 use Rattle.rules.specs.Machine.{Command}
 use Rattle.rules.specs.Run.{next, answer, question}
 use Rattle.rules.specs.Run as R
@@ -9,17 +8,23 @@ use Rattle.rules.specs.Sound.{sound}
 use Rattle.kernel.specs.declared.Kernel.{Kernel}
 use Rattle.kernel.specs.declared.Stepped.{Stepped}
 use Rattle.kernel.specs.declared.Left.{Left}
-use Rattle.checks.specs.declared.Command as given
-pub use Rattle.checks.specs.Shown.{said}
+use Rattle.kernel.specs.declared.command.Answer.{Answer}
+use Rattle.kernel_ready.specs.Ready.{running-in}
+use Rattle.kernel_checks.specs.declared.Command as given
+pub use Rattle.kernel_checks.specs.Shown.{to-rules}
 use Rattle.kernel.specs.View.{view, encode, tidy}
 
 -- A saved state is sound: its tables are tidy, and the machine that they stand for is sound.
 unfoldable pub isSound : Kernel → Bool
 isSound k = tidy k && sound (view k)
 
+-- An answer by its numbers: code, running, released.
+abbrev pub answerOf : ℕ → ℕ → ℕ → Answer
+answerOf n x t = record { code = n; running = record { 0 = x }; released = record { 0 = t } }
+
 -- A state with an answer of the rules.
 abbrev pub report : Kernel → R.Answer → Stepped
-report k a = record { next = k; answer = record { code = a .code; running = record { 0 = a .running }; released = record { 0 = a .released } } }
+report k a = record { next = k; answer = answerOf (a .code) (a .running) (a .released) }
 
 -- Shape: 1, 0, 0.
 abbrev pub shape : R.Answer
@@ -31,11 +36,11 @@ stepOf k c = cond (isSound k) (report (encode (next (view k) c)) (answer (view k
 
 -- The same of a command in the program's four numbers.
 abbrev pub stepped : Kernel → given.Command → Stepped
-stepped k c = stepOf k (said c)
+stepped k c = stepOf k (to-rules c)
 
 -- The running task as the tables tell it: 0 before Start.
 abbrev pub runningOf : Kernel → ℕ
-runningOf k = cond (k .started) (at (k .ready) 0) 0
+runningOf k = running-in (k .started) (k .ready)
 
 -- The answer to "Wakes left" of a task.
 abbrev pub counted : R.Left → Left

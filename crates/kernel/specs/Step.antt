@@ -1,65 +1,68 @@
--- What the code does to the tables, op by op: the contracts of the functions inside this crate, and of the public step_trusting (steppedOf).
--- (proofs/ ties each to the rules: of a sound state steppedOf is stepOf, Whole: step-meets. The other public contracts need none of this.)
+-- What the code does to the tables, op by op: the contracts of the functions inside this crate, and of the public
+-- step_trusting (steppedOf). (proofs/ ties each to the rules: of a sound state steppedOf is stepOf, Whole: step-meets.
+-- The other public contracts need none of this.)
 use Prim.Native.Nat.{ℕ, _+_, _^_}
 use mathlib.Core.Bool.{Bool, true, cond, _&&_}
 use mathlib.Core.List.{List}
 use lib.Dec.{eqb, leb, ltb}
 use lib.ListN.{set}
 use Rattle.rules.specs.declared.Kind.{Kind}
-use Rattle.rules.specs.declared.Kind.the-variants.{NoKind, Creating, Declaring, Starting, Delaying, Waking, Advancing, Opening, Entering, Ending}
-use Rattle.rules.specs.Line.{at}
+use Rattle.rules.specs.declared.Kind.the-variants.{NoKind, Creating, Declaring, Starting, Delaying, Waking, Advancing}
+use Rattle.rules.specs.declared.Kind.the-variants.{Opening, Entering, Ending}
 use Rattle.rules.specs.Machine.{Command, for-open, for-entry}
 use Rattle.rules.specs.Kinds.{kind}
 use Rattle.rules.specs.Table.{opens}
 use Rattle.rules.specs.Refusals.{refusal}
-use Rattle.line.specs.Tables.{place, pop, lower, later, more, with-time, time-in}
+use Rattle.kernel_line.specs.Tables.{place, pop, later, more, with-time}
+use Rattle.kernel_ready.specs.Ready.{runner-in, popped, tailed, to-tail}
+use Rattle.kernel_ops.specs.Moves.{due-in, waits-in, closed-line}
 use Rattle.kernel.specs.declared.Kernel.{Kernel}
 use Rattle.kernel.specs.declared.Stepped.{Stepped}
 use Rattle.kernel.specs.declared.command.Answer.{Answer}
 use Rattle.kernel.specs.View.{view}
-
--- ---- the tables that are lent, as the state that they are
-abbrev pub tables : List ℕ → List ℕ → List ℕ → List ℕ → List ℕ → List ℕ → List ℕ → List ℕ → ℕ → Bool → Kernel
-tables b r d h w u c q n s = record { base = b; ready = r; delayed = d; held = h; way = w; until = u; ceiling = c; waiter = q; clock = n; started = s }
+use Rattle.kernel.specs.Public.{answerOf, runningOf}
+pub use Rattle.kernel.specs.Lent.{tables}
 
 -- ---- the tables with other parts
 abbrev pub with-ready : Kernel → List ℕ → Kernel
-with-ready k l = record { base = k .base; ready = l; delayed = k .delayed; held = k .held; way = k .way; until = k .until; ceiling = k .ceiling; waiter = k .waiter; clock = k .clock; started = k .started }
+with-ready k l = tables (k .base) l (k .delayed) (k .held) (k .way) (k .until) (k .ceiling) (k .waiter) (k .clock)
+    (k .started)
 
 abbrev pub with-delay : Kernel → List ℕ → List ℕ → List ℕ → Kernel
-with-delay k l d u = record { base = k .base; ready = l; delayed = d; held = k .held; way = k .way; until = u; ceiling = k .ceiling; waiter = k .waiter; clock = k .clock; started = k .started }
+with-delay k l d u = tables (k .base) l d (k .held) (k .way) u (k .ceiling) (k .waiter) (k .clock) (k .started)
 
 abbrev pub with-hands : Kernel → List ℕ → List ℕ → List ℕ → Kernel
-with-hands k l h w = record { base = k .base; ready = l; delayed = k .delayed; held = h; way = w; until = k .until; ceiling = k .ceiling; waiter = k .waiter; clock = k .clock; started = k .started }
+with-hands k l h w = tables (k .base) l (k .delayed) h w (k .until) (k .ceiling) (k .waiter) (k .clock) (k .started)
 
 abbrev pub with-waiter : Kernel → List ℕ → List ℕ → Kernel
-with-waiter k l w = record { base = k .base; ready = l; delayed = k .delayed; held = k .held; way = k .way; until = k .until; ceiling = k .ceiling; waiter = w; clock = k .clock; started = k .started }
+with-waiter k l q = tables (k .base) l (k .delayed) (k .held) (k .way) (k .until) (k .ceiling) q (k .clock) (k .started)
 
 abbrev pub with-set-up : Kernel → List ℕ → List ℕ → List ℕ → Bool → Kernel
-with-set-up k b l o s = record { base = b; ready = l; delayed = k .delayed; held = k .held; way = k .way; until = k .until; ceiling = o; waiter = k .waiter; clock = k .clock; started = s }
+with-set-up k b l o s = tables b l (k .delayed) (k .held) (k .way) (k .until) o (k .waiter) (k .clock) s
 
 abbrev pub with-clock : Kernel → ℕ → Kernel
-with-clock k n = record { base = k .base; ready = k .ready; delayed = k .delayed; held = k .held; way = k .way; until = k .until; ceiling = k .ceiling; waiter = k .waiter; clock = n; started = k .started }
+with-clock k n = tables (k .base) (k .ready) (k .delayed) (k .held) (k .way) (k .until) (k .ceiling) (k .waiter) n
+    (k .started)
 
--- the front of the ready line, and a task at the tail of p in a line
-abbrev pub first : Kernel → ℕ
-first k = at (k .ready) 0
+-- the front of the ready line, and a line with a task at the tail of its base
+abbrev pub runnerOf : Kernel → ℕ
+runnerOf k = runner-in (k .ready)
 
-abbrev pub placed : Kernel → ℕ → ℕ → List ℕ → List ℕ
-placed k p t l = place (lower (k .base) (k .ceiling) (k .held) p) t l
+abbrev pub to-tail-of : Kernel → ℕ → List ℕ → List ℕ
+to-tail-of k t l = to-tail (k .base) (k .ceiling) (k .held) t l
 
 -- the answer of an accepted command, from the state behind it
-abbrev pub accepted : Bool → ℕ → ℕ → Answer
-accepted s x t = record { code = 0; running = record { 0 = cond s x 0 }; released = record { 0 = t } }
+abbrev pub accepted : ℕ → ℕ → Answer
+accepted x t = answerOf 0 x t
 
 abbrev pub answered : Kernel → ℕ → Stepped
-answered k t = record { next = k; answer = accepted (k .started) (first k) t }
+answered k t = record { next = k; answer = accepted (runningOf k) t }
 
 -- ---- the ops
 unfoldable pub createdOf : Kernel → ℕ → ℕ → Stepped
 createdOf k t p =
     let b = set (k .base) t p in
-    answered (with-set-up k b (place (lower b (k .ceiling) (k .held) p) t (k .ready)) (k .ceiling) (k .started)) 0
+    answered (with-set-up k b (tailed b (k .ceiling) (k .held) p t (k .ready)) (k .ceiling) (k .started)) 0
 
 unfoldable pub declaredOf : Kernel → ℕ → ℕ → Stepped
 declaredOf k o p = answered (with-set-up k (k .base) (k .ready) (set (k .ceiling) o p) (k .started)) 0
@@ -68,13 +71,15 @@ unfoldable pub begunOf : Kernel → Stepped
 begunOf k = answered (with-set-up k (k .base) (k .ready) (k .ceiling) true) 0
 
 unfoldable pub yieldedOf : Kernel → Stepped
-yieldedOf k = answered (with-ready k (placed k (at (k .base) (first k)) (first k) (pop (k .ready)))) 0
+yieldedOf k = answered (with-ready k (to-tail-of k (runnerOf k) (popped (k .ready)))) 0
 
 unfoldable pub sleptOf : Kernel → ℕ → Stepped
-sleptOf k v = answered (with-delay k (pop (k .ready)) (place (later (k .until) v) (first k) (k .delayed)) (with-time (k .until) (first k) v)) 0
+sleptOf k v =
+    let r = runnerOf k in
+    answered (with-delay k (popped (k .ready)) (place (later (k .until) v) r (k .delayed)) (with-time (k .until) r v)) 0
 
 unfoldable pub wokenOf : Kernel → ℕ → Stepped
-wokenOf k t = answered (with-delay k (placed k (at (k .base) t) t (k .ready)) (pop (k .delayed)) (with-time (k .until) t 0)) t
+wokenOf k t = answered (with-delay k (to-tail-of k t (k .ready)) (pop (k .delayed)) (with-time (k .until) t 0)) t
 
 abbrev pub grown : ℕ → ℕ → ℕ
 grown clock n = cond (ltb (clock + n) (2 ^ 64)) (clock + n) clock
@@ -83,32 +88,34 @@ unfoldable pub advancedOf : Kernel → ℕ → Stepped
 advancedOf k n = answered (with-clock k (grown (k .clock) n)) 0
 
 unfoldable pub heldOf : Kernel → ℕ → ℕ → Stepped
-heldOf k o w = answered (with-hands k (k .ready) (set (k .held) (first k) o) (set (k .way) (first k) w)) 0
+heldOf k o w = answered (with-hands k (k .ready) (set (k .held) (runnerOf k) o) (set (k .way) (runnerOf k) w)) 0
 
 unfoldable pub servedOf : Kernel → ℕ → ℕ → Kernel
-servedOf k o t = with-waiter k (placed k (at (k .base) t) t (k .ready)) (set (k .waiter) o 0)
+servedOf k o t = with-waiter k (to-tail-of k t (k .ready)) (set (k .waiter) o 0)
 
 unfoldable pub closedOf : Kernel → ℕ → Stepped
 closedOf k t =
-    let h = set (k .held) (first k) 0 in
-    let p = more (at (k .base) (first k)) in
-    answered (with-hands k (place (lower (k .base) (k .ceiling) h p) (first k) (pop (k .ready))) h (set (k .way) (first k) 0)) t
+    let r = runnerOf k in
+    let l = closed-line (k .base) (k .ceiling) (k .held) (k .ready) in
+    answered (with-hands k l (set (k .held) r 0) (set (k .way) r 0)) t
 
 unfoldable pub awaitingOf : Kernel → ℕ → Stepped
-awaitingOf k o = answered (with-waiter k (pop (k .ready)) (set (k .waiter) o (first k))) 0
+awaitingOf k o = answered (with-waiter k (popped (k .ready)) (set (k .waiter) o (runnerOf k))) 0
 
 -- whom a Wake wakes, and whom a close serves: 0 for nobody
 abbrev pub dueOf : Kernel → ℕ
-dueOf k = cond (leb (time-in (k .until) (at (k .delayed) 0)) (k .clock)) (at (k .delayed) 0) 0
+dueOf k = due-in (k .delayed) (k .until) (k .clock)
 
 abbrev pub waitingOf : Kernel → ℕ → Bool → ℕ
-waitingOf k o serves = cond serves (at (k .waiter) o) 0
+waitingOf k o serves = waits-in (k .waiter) o serves
 
 unfoldable pub wakeOf : Kernel → Stepped
 wakeOf k = cond (eqb (dueOf k) 0) (advancedOf k 0) (wokenOf k (dueOf k))
 
 unfoldable pub closingOf : Kernel → ℕ → Bool → Stepped
-closingOf k o serves = cond (eqb (waitingOf k o serves) 0) (closedOf k 0) (closedOf (servedOf k o (waitingOf k o serves)) (waitingOf k o serves))
+closingOf k o serves =
+    let t = waitingOf k o serves in
+    cond (eqb t 0) (closedOf k 0) (closedOf (servedOf k o t) t)
 
 -- an accepted command of that kind, carried out
 unfoldable pub carriedAs : Kind → Kernel → Command → Stepped
@@ -125,14 +132,14 @@ carriedAs (Ending e) k c = closingOf k (c .a) (e .serves && opens c)
 
 -- the answer to a refused command
 abbrev pub refused : ℕ → ℕ → Answer
-refused n x = record { code = n; running = record { 0 = x }; released = record { 0 = 0 } }
+refused n x = answerOf n x 0
 
 -- the step without the test (of a sound state it is stepOf: proofs/Whole, step-meets)
 -- It is refused as the rules refuse it, of the machine that the tables show, whatever they hold.
 unfoldable pub steppedOf : Kernel → Command → Stepped
 steppedOf k c =
     cond (eqb (refusal (view k) c) 0) (carriedAs (kind c) k c)
-    (record { next = k; answer = refused (refusal (view k) c) (cond (k .started) (first k) 0) })
+    (record { next = k; answer = refused (refusal (view k) c) (runningOf k) })
 
 -- ---- the question
 abbrev pub dueCount : ℕ → ℕ → ℕ → ℕ

@@ -1,13 +1,13 @@
 -- What the tables stand for: the machine of the rules, read off them and written into them.
 use Prim.Native.Nat.{ℕ, zero, suc}
-use mathlib.Core.Bool.{Bool, cond, _&&_, _||_}
+use mathlib.Core.Bool.{Bool, cond, _||_}
 use mathlib.Core.List.{List, [], _∷_, map}
 use lib.Dec.{eqb, leb}
 use lib.ListN.{length, set, replicate}
-use Rattle.rules.specs.Line.{at, count, front, all-below}
-use Rattle.rules.specs.Machine.{Machine, tasks}
-use Rattle.line.specs.Tables.{ended}
-pub use Rattle.checks.specs.Shown.{with-idle, nobody-or}
+use Rattle.rules.specs.Line.{at, count, front, all-of, all-below}
+use Rattle.rules.specs.Machine.{Machine, task-count, object-count, tasks}
+use Rattle.kernel_order.specs.Order.{ended}
+pub use Rattle.kernel_checks.specs.Shown.{with-idle, nobody-or}
 use Rattle.kernel.specs.declared.Kernel.{Kernel}
 
 -- The entries of a line before its first free place.
@@ -60,9 +60,24 @@ encode m = record {
   started = m .started;
 }
 
+-- The tables have their sizes.
+abbrev pub sized : Kernel → Bool
+sized k =
+    all-of
+    (eqb (length (k .base)) task-count ∷
+    eqb (length (k .ready)) task-count ∷
+    eqb (length (k .delayed)) task-count ∷
+    eqb (length (k .held)) task-count ∷
+    eqb (length (k .way)) task-count ∷
+    eqb (length (k .until)) task-count ∷
+    eqb (length (k .ceiling)) object-count ∷
+    eqb (length (k .waiter)) object-count ∷ [])
+
 -- Tables are tidy if they have their sizes, free places stand at a line's end only, and only delayed tasks have a time.
 unfoldable pub tidy : Kernel → Bool
 tidy k =
-    eqb (length (k .base)) 32 && eqb (length (k .ready)) 32 && eqb (length (k .delayed)) 32 && eqb (length (k .held)) 32 && eqb (length (k .way)) 32 &&
-    eqb (length (k .until)) 32 && eqb (length (k .ceiling)) 8 && eqb (length (k .waiter)) 8 &&
-    ended (k .ready) && ended (k .delayed) && all-below 32 (λ t. eqb (at (k .until) t) 0 || leb 1 (count t (live (k .delayed))))
+    all-of
+    (sized k ∷
+    ended (k .ready) ∷
+    ended (k .delayed) ∷
+    all-below task-count (λ t. eqb (at (k .until) t) 0 || leb 1 (count t (live (k .delayed)))) ∷ [])

@@ -1,5 +1,5 @@
 // What a step answers.
-use line::TaskID;
+use kernel_line::TaskID;
 
 // The number of the refusal, 0 for none; the running task after the step; the released task, 0 for nobody.
 pub struct Answer {

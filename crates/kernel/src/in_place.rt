@@ -1,36 +1,36 @@
-// The step and the test on lent tables: an accepted command is carried out where they lie, a refused one leaves them as they are.
-// (What each op does to them: crate ops. When it is refused: crate checks.)
+// The step and the test on lent tables: an accepted command is carried out where they lie, a refused one leaves them as
+// they are. (What each op does to them: crate kernel_ops. When it is refused: crate kernel_checks.)
 ghost use Prim.Native.Nat.{ℕ, _<_, _^_};
 ghost use mathlib.Core.Path.{_≡_};
 ghost use lib.ListN.{length};
 ghost use Rattle.rules.specs.Line.{at};
-ghost use Rattle.kernel.specs.Public.{said, isSound, stepOf};
+ghost use Rattle.kernel.specs.Lent.{lent, left, seen, Ends};
+ghost use Rattle.kernel.specs.Public.{to-rules, isSound, stepOf, runningOf};
 ghost use Rattle.kernel.specs.Step as step;
-ghost use Rattle.kernel.specs.Step.{tables};
 use crate::command::Answer;
-use checks::Command;
-use checks::Kind;
-use line::POId;
-use line::TaskID;
+use kernel_checks::Command;
+use kernel_checks::Kind;
+use kernel_line::POId;
+use kernel_line::TaskID;
 
 // The answer to a refused command: its number, who runs, and nobody released.
-pub(crate) fn refused(code: u8, running: u8) -> Answer
-    ensures { λ r. ⌜ r ≡ step.refused code running ⌝ }
+pub(crate) fn refused(code: u8, running: TaskID) -> Answer
+    ensures { λ r. ⌜ r ≡ step.refused code (running .0) ⌝ }
 {
     Answer {
         code,
-        running: TaskID(running),
+        running,
         released: TaskID(0),
     }
 }
 
-// The answer of an accepted command: the running task is the front of the ready line, 0 before Start.
-fn accepted(started: bool, front: u8, released: u8) -> Answer
-    ensures { λ r. ⌜ r ≡ step.accepted started front released ⌝ }
+// The answer to an accepted command: who runs behind it, and who is released.
+fn accepted(running: TaskID, released: u8) -> Answer
+    ensures { λ r. ⌜ r ≡ step.accepted (running .0) released ⌝ }
 {
     Answer {
         code: 0,
-        running: TaskID(line::choose(started, front, 0)),
+        running,
         released: TaskID(released),
     }
 }
@@ -50,28 +50,39 @@ fn carry(
     k: Kind,
     c: Command,
 ) -> u8
-    ensures { λ r. ⌜ (tables (now (base .exit)) (now (ready .exit)) (now (delayed .exit)) (now (held .exit)) (now (way .exit)) (now (until .exit)) (now (ceiling .exit)) (now (waiter .exit)) (now (clock .exit)) (now (started .exit)) ≡ (step.carriedAs k (tables (now (base .entry)) (now (ready .entry)) (now (delayed .entry)) (now (held .entry)) (now (way .entry)) (now (until .entry)) (now (ceiling .entry)) (now (waiter .entry)) (now (clock .entry)) (now (started .entry))) (said c)) .next) × (step.accepted (now (started .exit)) (at (now (ready .exit)) 0) r ≡ (step.carriedAs k (tables (now (base .entry)) (now (ready .entry)) (now (delayed .entry)) (now (held .entry)) (now (way .entry)) (now (until .entry)) (now (ceiling .entry)) (now (waiter .entry)) (now (clock .entry)) (now (started .entry))) (said c)) .answer) ⌝ }
+    ensures { λ r. let behind = left base ready delayed held way until ceiling waiter clock started in
+        ⌜ Ends behind (step.accepted (runningOf behind) r)
+        (step.carriedAs k (lent base ready delayed held way until ceiling waiter clock started) (to-rules c)) ⌝ }
 {
     let tops = *ceiling;
     match k {
         Kind::NoKind => 0,
-        Kind::Creating => ops::create(base, ready, tops, held, TaskID(c.a), c.b),
-        Kind::Declaring => ops::declare(ceiling, POId(c.a), c.b),
-        Kind::Starting => ops::begin(started),
-        Kind::Delaying => ops::delay(base, ready, delayed, held, until, tops, *clock, c.value),
-        Kind::Waking => ops::wake(base, ready, delayed, held, until, tops, *clock),
-        Kind::Advancing => ops::advance(clock, c.value),
-        Kind::Opening => ops::hold(ready, held, way, POId(c.a), 1),
-        Kind::Entering => ops::enter(ready, held, way, waiter, POId(c.a), c.b),
+        Kind::Creating => kernel_ops::create(base, ready, tops, held, TaskID(c.a), c.b),
+        Kind::Declaring => kernel_ops::declare(ceiling, POId(c.a), c.b),
+        Kind::Starting => kernel_ops::begin(started),
+        Kind::Delaying => kernel_ops::delay(
+            base,
+            ready,
+            delayed,
+            held,
+            until,
+            tops,
+            *clock,
+            c.value,
+        ),
+        Kind::Waking => kernel_ops::wake(base, ready, delayed, held, until, tops, *clock),
+        Kind::Advancing => kernel_ops::advance(clock, c.value),
+        Kind::Opening => kernel_ops::hold(ready, held, way, POId(c.a), 1),
+        Kind::Entering => kernel_ops::enter(ready, held, way, waiter, POId(c.a), c.b),
         Kind::Ending(e) => {
             let serves = e.serves & (c.b == 1);
-            ops::end(base, ready, held, way, tops, waiter, POId(c.a), serves)
+            kernel_ops::end(base, ready, held, way, tops, waiter, POId(c.a), serves)
         }
     }
 }
 
-// The step that trusts the tables to be those of a sound state, and does not test them. Any tables get one answer, which for those of a
-// forged state is no step of document 01.
+// The step that trusts the tables to be those of a sound state, and does not test them. Any tables get one answer,
+// which for those of a forged state is no step of document 01.
 pub fn step_trusting(
     base: &mut [u8; 32],
     ready: &mut [u8; 32],
@@ -85,14 +96,15 @@ pub fn step_trusting(
     started: &mut bool,
     c: Command,
 ) -> Answer
-    ensures { λ r. ⌜ (tables (now (base .exit)) (now (ready .exit)) (now (delayed .exit)) (now (held .exit)) (now (way .exit)) (now (until .exit)) (now (ceiling .exit)) (now (waiter .exit)) (now (clock .exit)) (now (started .exit)) ≡ (step.steppedOf (tables (now (base .entry)) (now (ready .entry)) (now (delayed .entry)) (now (held .entry)) (now (way .entry)) (now (until .entry)) (now (ceiling .entry)) (now (waiter .entry)) (now (clock .entry)) (now (started .entry))) (said c)) .next) × (r ≡ (step.steppedOf (tables (now (base .entry)) (now (ready .entry)) (now (delayed .entry)) (now (held .entry)) (now (way .entry)) (now (until .entry)) (now (ceiling .entry)) (now (waiter .entry)) (now (clock .entry)) (now (started .entry))) (said c)) .answer) ⌝ }
+    ensures { λ r. ⌜ Ends (left base ready delayed held way until ceiling waiter clock started) r
+        (step.steppedOf (lent base ready delayed held way until ceiling waiter clock started) (to-rules c)) ⌝ }
 {
     let tops = *ceiling;
     let waits = *waiter;
     let k = c.kind();
-    let code = checks::refusal(base, ready, held, way, tops, waits, *clock, *started, k, c);
+    let code = kernel_checks::refusal(base, ready, held, way, tops, waits, *clock, *started, k, c);
     if code != 0 {
-        let shown = line::choose(*started, ready[0], 0);
+        let shown = kernel_ready::running(*started, ready);
         return refused(code, shown);
     }
     let t = carry(
@@ -109,12 +121,12 @@ pub fn step_trusting(
         k,
         c,
     );
-    let on = *started;
-    let front = ready[0];
-    accepted(on, front, t)
+    let shown = kernel_ready::running(*started, ready);
+    accepted(shown, t)
 }
 
-// What the types of lent tables say, told to the logic: it knows the length of an array that is looked at as a slice, and that each number there fits. It costs nothing.
+// What the types of lent tables say, told to the logic: it knows the length of an array that is looked at as a slice,
+// and that each number there fits. It costs nothing.
 fn sized(
     base: &[u8; 32],
     ready: &[u8; 32],
@@ -123,7 +135,10 @@ fn sized(
     way: &[u8; 32],
     until: &[u64; 32],
 )
-    ensures { λ _. ⌜ (length (now (base .entry)) ≡ 32) × (length (now (ready .entry)) ≡ 32) × (length (now (delayed .entry)) ≡ 32) × (length (now (held .entry)) ≡ 32) × (length (now (way .entry)) ≡ 32) × (length (now (until .entry)) ≡ 32) × ((t : ℕ) → at (now (until .entry)) t < 2 ^ 64) ⌝ }
+    ensures { λ _. ⌜ (length (now (base .entry)) ≡ 32) × (length (now (ready .entry)) ≡ 32)
+        × (length (now (delayed .entry)) ≡ 32) × (length (now (held .entry)) ≡ 32)
+        × (length (now (way .entry)) ≡ 32) × (length (now (until .entry)) ≡ 32)
+        × ((t : ℕ) → at (now (until .entry)) t < 2 ^ 64) ⌝ }
 {
     let bases: &[u8] = base;
     let readies: &[u8] = ready;
@@ -147,10 +162,10 @@ pub fn sound<'a>(
     clock: u64,
     started: bool,
 ) -> bool
-    ensures { λ r. ⌜ r ≡ isSound (tables (now (base .entry)) (now (ready .entry)) (now (delayed .entry)) (now (held .entry)) (now (way .entry)) (now (until .entry)) ceiling waiter clock started) ⌝ }
+    ensures { λ r. ⌜ r ≡ isSound (seen base ready delayed held way until ceiling waiter clock started) ⌝ }
 {
     sized(base, ready, delayed, held, way, until);
-    soundness::tested(
+    kernel_sound::tested(
         base,
         ready,
         delayed,
@@ -178,7 +193,8 @@ pub fn step(
     started: &mut bool,
     c: Command,
 ) -> Answer
-    ensures { λ r. ⌜ (tables (now (base .exit)) (now (ready .exit)) (now (delayed .exit)) (now (held .exit)) (now (way .exit)) (now (until .exit)) (now (ceiling .exit)) (now (waiter .exit)) (now (clock .exit)) (now (started .exit)) ≡ (stepOf (tables (now (base .entry)) (now (ready .entry)) (now (delayed .entry)) (now (held .entry)) (now (way .entry)) (now (until .entry)) (now (ceiling .entry)) (now (waiter .entry)) (now (clock .entry)) (now (started .entry))) (said c)) .next) × (r ≡ (stepOf (tables (now (base .entry)) (now (ready .entry)) (now (delayed .entry)) (now (held .entry)) (now (way .entry)) (now (until .entry)) (now (ceiling .entry)) (now (waiter .entry)) (now (clock .entry)) (now (started .entry))) (said c)) .answer) ⌝ }
+    ensures { λ r. ⌜ Ends (left base ready delayed held way until ceiling waiter clock started) r
+        (stepOf (lent base ready delayed held way until ceiling waiter clock started) (to-rules c)) ⌝ }
 {
     let tops = *ceiling;
     let waits = *waiter;
@@ -194,7 +210,7 @@ pub fn step(
         *clock,
         *started,
     ) {
-        return refused(1, 0);
+        return refused(1, TaskID(0));
     }
     step_trusting(
         base,

@@ -3,18 +3,19 @@
 ghost use mathlib.Core.Path.{_≡_};
 ghost use Rattle.rules.specs.Machine.{fresh};
 ghost use Rattle.kernel.specs.View.{encode};
-ghost use Rattle.kernel.specs.Public.{said, isSound, stepOf, leftOf};
+ghost use Rattle.kernel.specs.Public.{to-rules, isSound, stepOf, leftOf};
 ghost use Rattle.kernel.specs.Step as step;
 
 mod command;
 pub mod in_place;
 
-pub use checks::Command;
 pub use command::Answer;
-pub use line::POId;
-pub use line::TaskID;
+pub use kernel_checks::Command;
+pub use kernel_line::POId;
+pub use kernel_line::TaskID;
 
-// Tables are indexed by the task 0..31 or by the object 0..7. A line ends at its first 0: idle is last in the ready line, and never delayed.
+// Tables are indexed by the task 0..31 or by the object 0..7. A line ends at its first 0: idle is last in the ready
+// line, and never delayed.
 pub struct Kernel {
     // each task's base priority: 0 for idle, and for a task that is not created
     pub base: [u8; 32],
@@ -22,7 +23,8 @@ pub struct Kernel {
     pub ready: [u8; 32],
     // the delayed tasks, by time
     pub delayed: [u8; 32],
-    // the object that each task holds, 0 for none; and the way: 1 for a procedure or function, 2 for an entry, 0 for none
+    // the object that each task holds, 0 for none; and the way: 1 for a procedure or function, 2 for an entry, 0 for
+    // none
     pub held: [u8; 32],
     pub way: [u8; 32],
     // each delayed task's time; 0 for any other
@@ -49,11 +51,11 @@ pub struct Left {
 impl Kernel {
     pub const IDLE: TaskID = TaskID(0);
 
-    pub const LAST_TASK: TaskID = TaskID(checks::LAST_TASK);
+    pub const LAST_TASK: TaskID = TaskID(kernel_checks::LAST_TASK);
 
-    pub const LAST_OBJECT: POId = POId(checks::LAST_OBJECT);
+    pub const LAST_OBJECT: POId = POId(kernel_checks::LAST_OBJECT);
 
-    pub const TOP_PRIORITY: u8 = checks::TOP_PRIORITY;
+    pub const TOP_PRIORITY: u8 = kernel_checks::TOP_PRIORITY;
 
     // Task 0 alone, no object, clock 0, not started.
     pub fn fresh() -> Kernel
@@ -91,9 +93,10 @@ impl Kernel {
         )
     }
 
-    // A state that is not sound is answered 1, 0, 0 and comes back as it is; a refused command its number and the same state.
+    // A state that is not sound is answered 1, 0, 0 and comes back as it is; a refused command its number and the same
+    // state.
     pub fn step(self, c: Command) -> Stepped
-        ensures { λ r. ⌜ r ≡ stepOf self (said c) ⌝ }
+        ensures { λ r. ⌜ r ≡ stepOf self (to-rules c) ⌝ }
     {
         let mut base = self.base;
         let mut ready = self.ready;
@@ -133,10 +136,10 @@ impl Kernel {
         Stepped { next, answer }
     }
 
-    // The step that trusts its state to be sound and does not test it: of a sound state it is `step`. Any tables get one answer, which for a
-    // forged state is no step of document 01.
+    // The step that trusts its state to be sound and does not test it: of a sound state it is `step`. Any tables get
+    // one answer, which for a forged state is no step of document 01.
     pub fn step_trusting(self, c: Command) -> Stepped
-        ensures { λ r. ⌜ r ≡ step.steppedOf self (said c) ⌝ }
+        ensures { λ r. ⌜ r ≡ step.steppedOf self (to-rules c) ⌝ }
     {
         let mut base = self.base;
         let mut ready = self.ready;
@@ -176,7 +179,8 @@ impl Kernel {
         Stepped { next, answer }
     }
 
-    // How many accepted Wakes there are until the one that releases the task, that one counted; 0 where it is not delayed and due.
+    // How many accepted Wakes there are until the one that releases the task, that one counted; 0 where it is not
+    // delayed and due.
     pub fn wakes_left(self, t: TaskID) -> Left
         ensures { λ r. ⌜ r ≡ leftOf self (t .0) ⌝ }
     {
@@ -189,15 +193,15 @@ impl Kernel {
         if Kernel::LAST_TASK.0 < t.0 {
             return Left { code: 4, left: 0 };
         }
-        if line::of_task(&self.base, t) == 0 {
+        if kernel_line::of_task(&self.base, t) == 0 {
             return Left { code: 6, left: 0 };
         }
         let delayed = self.delayed;
         Left {
             code: 0,
             left: due_count(
-                line::lead_task(delayed, t),
-                line::time_of(&self.until, t),
+                kernel_line::lead_task(delayed, t),
+                kernel_line::time_of(&self.until, t),
                 self.clock,
             ),
         }
@@ -208,5 +212,9 @@ impl Kernel {
 fn due_count(ahead: u8, time: u64, clock: u64) -> u8
     ensures { λ r. ⌜ r ≡ step.dueCount ahead time clock ⌝ }
 {
-    line::choose((ahead < 32) & (time <= clock), line::one_more(ahead), 0)
+    kernel_line::choose(
+        (ahead < 32) & (time <= clock),
+        kernel_line::one_more(ahead),
+        0,
+    )
 }

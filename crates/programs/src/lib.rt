@@ -1,31 +1,28 @@
-// The programs walk, draw and judge, over any descriptor: what is read there is handed to session, or to judging, and what is printed of it is written to
-// standard output. Each answers its status: 0 where it did its work (judge: the tape agrees), 1 (judge) differs, 2 (judge) refused, 3 where a read or a
-// write failed. A failed read or write ends the work at once, and nothing is carried out or printed of what was not read.
-ghost use Rattle.programs.specs.Loops as loops;
-
-pub mod draw;
-mod hint;
-pub mod judge;
-pub mod walk;
+// The programs walk, draw and judge, over any descriptor: what is read there is handed to session, or to judging, and
+// what is printed of it is written to standard output. Each answers its status: 0 where it did its work (judge: the
+// tape agrees), 1 (judge) differs, 2 (judge) refused, 3 where a read or a write failed. A failed read or write ends
+// the work at once, and nothing is carried out or printed of what was not read.
+ghost use Rattle.programs_flow.specs.Loops.{Done-or-failed};
+ghost use Rattle.programs_judge.specs.Judged.{Judged-or-failed};
 
 // For the C `main` of host/program.c: the language has no exit status.
 #[no_mangle]
 pub extern "C" fn rvn_program_walk() -> u32
-    ensures { λ r. ⌜ loops.Done-or-failed r ⌝ }
+    ensures { λ r. ⌜ Done-or-failed r ⌝ }
 {
-    walk::run(libc::STDIN_FILENO) as u32
+    programs_walk::run(libc::STDIN_FILENO) as u32
 }
 
 #[no_mangle]
 pub extern "C" fn rvn_program_draw() -> u32
-    ensures { λ r. ⌜ loops.Done-or-failed r ⌝ }
+    ensures { λ r. ⌜ Done-or-failed r ⌝ }
 {
-    draw::run(libc::STDIN_FILENO) as u32
+    programs_draw::run(libc::STDIN_FILENO) as u32
 }
 
 #[no_mangle]
 pub extern "C" fn rvn_program_judge() -> u32
-    ensures { λ r. ⌜ loops.Judged-or-failed r ⌝ }
+    ensures { λ r. ⌜ Judged-or-failed r ⌝ }
 {
-    judge::run(libc::STDIN_FILENO) as u32
+    programs_judge::run(libc::STDIN_FILENO) as u32
 }

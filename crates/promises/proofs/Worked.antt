@@ -8,13 +8,13 @@ use Rattle.rules.specs.Refusals.{refusal}
 use Rattle.rules.specs.Sound.{sound}
 use Rattle.rules.specs.Run as rules
 use Rattle.kernel.specs.declared.Kernel.{Kernel}
-use Rattle.checks.specs.declared.Command.{Command}
+use Rattle.kernel_checks.specs.declared.Command.{Command}
 use Rattle.kernel.specs.View.{encode, view, tidy}
 use Rattle.kernel.specs.Public.{isSound, stepOf, stepped}
 use Rattle.generator.specs.declared.Profile.{Profile}
-use Rattle.draws.specs.Xorshift.{draw}
-use Rattle.draws.specs.Menu.{menu}
-use Rattle.draws.specs.Draw.{drawn, draw-refusal, chosen}
+use Rattle.generator_draws.specs.Xorshift.{draw}
+use Rattle.generator_draws.specs.Menu.{menu}
+use Rattle.generator_draws.specs.Draw.{drawn, draw-refusal, chosen}
 use Rattle.generator.specs.Public.{drawnIn, drawnOf}
 use Rattle.promises.specs.Words.{freshOf, runOf}
 
@@ -34,7 +34,8 @@ abbrev pub linesOf : ℕ → Kernel → List Command → List Line
 linesOf n k [] = []
 linesOf n k (c ∷ cs) =
     let s = stepped k c in
-    record { n = n; op = c .op; code = s .answer .code; running = s .answer .running .0; released = s .answer .released .0; clock = s .next .clock } ∷ linesOf (suc n) (s .next) cs
+    let a = s .answer in
+    record { n = n; op = c .op; code = a .code; running = a .running .0; released = a .released .0; clock = s .next .clock } ∷ linesOf (suc n) (s .next) cs
 
 abbrev cmd : ℕ → ℕ → ℕ → ℕ → Command
 cmd op a b value = record { op = op; a = a; b = b; value = value }
@@ -46,7 +47,9 @@ setUp = cmd 1 1 3 0 ∷ cmd 1 2 5 0 ∷ cmd 1 3 3 0 ∷ cmd 2 1 4 0 ∷ cmd 3 0 
 -- and delay 10, open 1, advance 10, wake, open 1, delay 20, closep 1 1, entry 1 0, entry 1 0, open 1, closep 1 1
 abbrev pub walk : List Command
 walk =
-    setUp ++ (cmd 4 0 0 10 ∷ cmd 7 1 0 0 ∷ cmd 6 0 0 10 ∷ cmd 5 0 0 0 ∷ cmd 7 1 0 0 ∷ cmd 4 0 0 20 ∷ cmd 8 1 1 0 ∷ cmd 10 1 0 0 ∷ cmd 10 1 0 0 ∷ cmd 7 1 0 0 ∷ cmd 8 1 1 0 ∷ [])
+    setUp ++
+    (cmd 4 0 0 10 ∷ cmd 7 1 0 0 ∷ cmd 6 0 0 10 ∷ cmd 5 0 0 0 ∷ cmd 7 1 0 0 ∷ cmd 4 0 0 20 ∷
+    cmd 8 1 1 0 ∷ cmd 10 1 0 0 ∷ cmd 10 1 0 0 ∷ cmd 7 1 0 0 ∷ cmd 8 1 1 0 ∷ [])
 
 -- seed 1 span 100 weights 10 10 10 10 10 10 10 10
 abbrev tens : Profile

@@ -8,12 +8,13 @@ use lib.Dec.{eqb}
 use Rattle.rules.specs.Line.{at, one-if}
 use Rattle.rules.specs.Machine.{fresh}
 use Rattle.kernel.specs.declared.Kernel.{Kernel}
-use Rattle.checks.specs.declared.Command.{Command}
+use Rattle.kernel_checks.specs.declared.Command.{Command}
 use Rattle.kernel.specs.declared.command.Answer.{Answer}
 use Rattle.kernel.specs.View.{encode}
 use Rattle.kernel.specs.Public.{stepped}
 
--- What Kernel::fresh answers: its contract is this equation. (What Kernel::step answers, `stepped`, and who runs, `runningOf`: kernel/specs/Public.)
+-- What Kernel::fresh answers: its contract is this equation. (What Kernel::step answers, `stepped`, and who runs,
+-- `runningOf`: kernel/specs/Public.)
 unfoldable pub freshOf : Kernel
 freshOf = encode fresh
 
@@ -38,6 +39,10 @@ wokeBy k c = eqb (c .op) 5 && eqb (stepped k c .answer .code) 0
 unfoldable pub wakesOf : Kernel → List Command → ℕ
 wakesOf k [] = 0
 wakesOf k (c ∷ cs) = one-if (wokeBy k c) + wakesOf (stepped k c .next) cs
+
+-- a Wake
+abbrev pub aWake : Command
+aWake = record { op = 5; a = 0; b = 0; value = 0 }
 
 -- task t stands at index r of the delay line, and its time is at most the clock
 pub record DueIn (k : Kernel) (t r : ℕ) : Type 0 where

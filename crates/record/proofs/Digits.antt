@@ -18,7 +18,8 @@ more x d = digit (x / d) ∙ ap (λ (q : ℕ). x / d % 256 + 256 * q) (div-div-e
 top : (x : ℕ) → x < 18446744073709551616 → x / 72057594037927936 % 256 ≡ x / 72057594037927936
 top x h = omega arith
 
-sum : (x a b c d e f g p q r s t u v : ℕ) → x ≡ p + 256 * a → a ≡ q + 256 * b → b ≡ r + 256 * c → c ≡ s + 256 * d → d ≡ t + 256 * e → e ≡ u + 256 * f → f ≡ v + 256 * g
+sum : (x a b c d e f g p q r s t u v : ℕ) → x ≡ p + 256 * a → a ≡ q + 256 * b → b ≡ r + 256 * c → c ≡ s + 256 * d → d ≡ t + 256 * e → e ≡ u + 256 * f → f
+    ≡ v + 256 * g
     → p + 256 * q + 65536 * r + 16777216 * s + 4294967296 * t + 1099511627776 * u + 281474976710656 * v + 72057594037927936 * g ≡ x
 sum x a b c d e f g p q r s t u v h₀ h₁ h₂ h₃ h₄ h₅ h₆ = omega arith
 
@@ -26,7 +27,8 @@ sum x a b c d e f g p q r s t u v h₀ h₁ h₂ h₃ h₄ h₅ h₆ = omega ari
 pub value-back : (x : ℕ) → x < 18446744073709551616 → ofLe (le8 x) 0 ≡ x
 value-back x h =
     rw (top x h)
-    (sum x (x / 256) (x / 65536) (x / 16777216) (x / 4294967296) (x / 1099511627776) (x / 281474976710656) (x / 72057594037927936) _ _ _ _ _ _ _ (digit x) (more x 256)
+    (sum x (x / 256) (x / 65536) (x / 16777216) (x / 4294967296) (x / 1099511627776) (x / 281474976710656) (x / 72057594037927936) _ _ _ _ _ _ _ (digit x)
+    (more x 256)
     (more x 65536) (more x 16777216) (more x 4294967296) (more x 1099511627776) (more x 281474976710656))
 
 low : (b y : ℕ) → b < 256 → (b + 256 * y) % 256 ≡ b
@@ -55,10 +57,12 @@ module _ (p : List ℕ) (i : ℕ) (small : (j : ℕ) → getD p j 0 < 256) where
   pub value-small : ofLe p i < 18446744073709551616
   value-small = omega (arith, small i, small (i + 1), small (i + 2), small (i + 3), small (i + 4), small (i + 5), small (i + 6), small (i + 7))
 
-  pub bytes-back : le8 (ofLe p i) ≡ getD p i 0 ∷ getD p (i + 1) 0 ∷ getD p (i + 2) 0 ∷ getD p (i + 3) 0 ∷ getD p (i + 4) 0 ∷ getD p (i + 5) 0 ∷ getD p (i + 6) 0 ∷ getD p (i + 7) 0 ∷ []
+  pub bytes-back : le8 (ofLe p i) ≡ getD p i 0 ∷ getD p (i + 1) 0 ∷ getD p (i + 2) 0 ∷ getD p (i + 3) 0 ∷ getD p (i + 4) 0 ∷ getD p (i + 5) 0
+      ∷ getD p (i + 6) 0 ∷ getD p (i + 7) 0 ∷ []
   bytes-back =
       let x : ℕ = ofLe p i in
-      let n = nested (getD p i 0) (getD p (i + 1) 0) (getD p (i + 2) 0) (getD p (i + 3) 0) (getD p (i + 4) 0) (getD p (i + 5) 0) (getD p (i + 6) 0) (getD p (i + 7) 0) in
+      let n = nested (getD p i 0) (getD p (i + 1) 0) (getD p (i + 2) 0) (getD p (i + 3) 0) (getD p (i + 4) 0) (getD p (i + 5) 0) (getD p (i + 6) 0)
+      (getD p (i + 7) 0) in
       let d₁ = at-digit x 256 (getD p (i + 1) 0) _ (small (i + 1)) (ap (λ (q : ℕ). q / 256) n ∙ high (getD p i 0) _ (small i)) in
       let d₂ = at-digit x 65536 (getD p (i + 2) 0) _ (small (i + 2)) (d₁ .1) in
       let d₃ = at-digit x 16777216 (getD p (i + 3) 0) _ (small (i + 3)) (d₂ .1) in

@@ -18,7 +18,9 @@ use Rattle.record.proofs.Digits.{value-back, value-small, bytes-back}
 -- a record is read from its bytes
 pub fields-back : (r : Record) → r .value < 18446744073709551616 → recordOf (bytesOf r) ≡ r
 unfolding recordOf bytesOf
-fields-back r h = ap (λ (v : ℕ). record { op = r .op; a = r .a; b = r .b; code = r .code; running = r .running; released = r .released; value = v }) (value-back (r .value) h)
+fields-back r h =
+    ap (λ (v : ℕ). record { op = r .op; a = r .a; b = r .b; code = r .code; running = r .running; released = r .released; value = v })
+    (value-back (r .value) h)
 
 -- a list, entry by entry
 abbrev spell : List ℕ → ℕ → ℕ → List ℕ
@@ -34,7 +36,8 @@ both true true e = (refl, refl)
 both true false e = (refl, e)
 both false y e = (e, absurd (true≢false (sym e)))
 
-headed : {a b x y : ℕ} {l m : List ℕ} → a ≡ x → b ≡ y → (c d e f g h : ℕ) → l ≡ m → _≡_ {A = List ℕ} (a ∷ b ∷ c ∷ d ∷ e ∷ f ∷ g ∷ h ∷ l) (x ∷ y ∷ c ∷ d ∷ e ∷ f ∷ g ∷ h ∷ m)
+headed : {a b x y : ℕ} {l m : List ℕ} → a ≡ x → b ≡ y → (c d e f g h : ℕ) → l ≡ m
+    → _≡_ {A = List ℕ} (a ∷ b ∷ c ∷ d ∷ e ∷ f ∷ g ∷ h ∷ l) (x ∷ y ∷ c ∷ d ∷ e ∷ f ∷ g ∷ h ∷ m)
 headed p q c d e f g h r = cc
 
 -- 16 bytes with a right mark are the bytes of the fields that they hold

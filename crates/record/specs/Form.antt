@@ -1,4 +1,5 @@
--- The record of document 01, "Tape": its 16 bytes, and when fields or bytes are a header or a command record. Assumes nothing.
+-- The record of document 01, "Tape": its 16 bytes, and when fields or bytes are a header or a command record. Assumes
+-- nothing.
 use Prim.Native.Nat.{ℕ, _+_, _*_, _/_, _%_}
 use mathlib.Core.List.{List, [], _∷_}
 use mathlib.Core.Bool.{Bool, not, _&&_}
@@ -6,7 +7,8 @@ use lib.ListN.{getD}
 use lib.Dec.{leb, eqb}
 use Rattle.record.specs.declared.Record.{Record}
 
--- The ranges of the fields, each in this one place: the edition, the last op, the last code, the last task, the last seed.
+-- The ranges of the fields, each in this one place: the edition, the last op, the last code, the last task, the last
+-- seed.
 abbrev pub edition : ℕ
 edition = 1
 
@@ -31,10 +33,12 @@ le8 x =
 -- the value of 8 bytes that stand from index i on, least first
 abbrev pub ofLe : List ℕ → ℕ → ℕ
 ofLe p i =
-    getD p i 0 + 256 * getD p (i + 1) 0 + 65536 * getD p (i + 2) 0 + 16777216 * getD p (i + 3) 0 + 4294967296 * getD p (i + 4) 0
+    getD p i 0 + 256 * getD p (i + 1) 0 + 65536 * getD p (i + 2) 0 + 16777216 * getD p (i + 3) 0 + 4294967296 * getD p
+    (i + 4) 0
     + 1099511627776 * getD p (i + 5) 0 + 281474976710656 * getD p (i + 6) 0 + 72057594037927936 * getD p (i + 7) 0
 
--- a record's 16 bytes: the mark 0x52 0x56, then op, a, b, code, running, released, one byte each, then value, 8 bytes, least first
+-- a record's 16 bytes: the mark 0x52 0x56, then op, a, b, code, running, released, one byte each, then value, 8 bytes,
+-- least first
 unfoldable pub bytesOf : Record → List ℕ
 bytesOf r = 82 ∷ 86 ∷ r .op ∷ r .a ∷ r .b ∷ r .code ∷ r .running ∷ r .released ∷ le8 (r .value)
 
@@ -57,15 +61,19 @@ marked p = eqb (getD p 0 0) 82 && eqb (getD p 1 0) 86
 
 -- a header's fields, its value aside: op 0, a = 1 (edition), the next four bytes 0
 abbrev pub headerFields : Record → Bool
-headerFields r = eqb (r .op) 0 && eqb (r .a) edition && eqb (r .b) 0 && eqb (r .code) 0 && eqb (r .running) 0 && eqb (r .released) 0
+headerFields r =
+    eqb (r .op) 0 && eqb (r .a) edition && eqb (r .b) 0 && eqb (r .code) 0 && eqb (r .running) 0 && eqb (r .released) 0
 
 -- a seed: 1..4294967295
 abbrev pub isSeed : ℕ → Bool
 isSeed v = leb 1 v && leb v lastSeed
 
--- a command record's fields: op 1..11, code 0..13, running and released 0..31; operand bytes and value may hold anything
+-- a command record's fields: op 1..11, code 0..13, running and released 0..31; operand bytes and value may hold
+-- anything
 abbrev pub commandFields : Record → Bool
-commandFields r = leb 1 (r .op) && leb (r .op) lastOp && leb (r .code) lastCode && leb (r .running) lastTask && leb (r .released) lastTask
+commandFields r =
+    leb 1 (r .op) && leb (r .op) lastOp && leb (r .code) lastCode && leb (r .running) lastTask && leb (r .released)
+    lastTask
 
 -- the header of a tape made with a seed
 abbrev pub headerOf : ℕ → Record

@@ -1,12 +1,17 @@
-// One record of a tape of document 01: its fields, its 16 bytes, and whether fields are a header or a command record at a place.
+// One record of a tape of document 01: its fields, its 16 bytes, and whether fields are a header or a command record
+// at a place.
 //
 // No public function has a `requires`. specs/ says what each answer is.
 ghost use mathlib.Core.Path.{_≡_};
 ghost use mathlib.Core.Bool.{cond};
 ghost use Prim.Native.Nat.{_<_};
 ghost use lib.ListN.{getD};
-ghost use Rattle.record.specs.Form.{le8, ofLe, bytesOf, recordOf, marked, headerFields, isSeed, commandFields, headerOf};
+ghost use Rattle.record.specs.Form.{le8, ofLe, bytesOf, recordOf, marked, headerFields, isSeed, commandFields};
+ghost use Rattle.record.specs.Form.{headerOf};
 ghost use Rattle.record.specs.Fault.{headerFault, commandFault, faultOf};
+
+// The length of a record.
+pub const RECORD_BYTES: usize = 16;
 
 // The ranges of the fields, each in this one place (and in specs/Form).
 const EDITION: u8 = 1;
@@ -19,7 +24,8 @@ const LAST_TASK: u8 = 31;
 
 const LAST_SEED: u64 = 4294967295;
 
-// A header or a command with its answer. Any values fit; which of them are a record, and where, the writer and the reader judge.
+// A header or a command with its answer. Any values fit; which of them are a record, and where, the writer and the
+// reader judge.
 pub struct Record {
     pub op: u8,
     pub a: u8,
@@ -198,8 +204,8 @@ fn command_fault(r: Record) -> u8
     choose(command_fields(r), 0, 15)
 }
 
-// 0, 15 or 17 for fields at a place; reader and writer judge by it. It branches, where `choose` would judge each record both ways: that took 1.7
-// times as long to read as C.
+// 0, 15 or 17 for fields at a place; reader and writer judge by it. It branches, where `choose` would judge each
+// record both ways: that took 1.7 times as long to read as C.
 pub fn fault(at: usize, r: Record) -> u8
     ensures { λ c. ⌜ c ≡ faultOf at r ⌝ }
 {

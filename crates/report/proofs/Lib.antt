@@ -1,4 +1,2 @@
 pub mod Puts
-pub mod Bounds
 pub mod Single
-pub mod Examples

@@ -5,13 +5,11 @@ use mathlib.Core.Path.{_≡_, refl, sym, _∙_}
 use mathlib.Core.Logic.{_≢_}
 use mathlib.Core.List.{List, [], _++_}
 use lib.ListN.{length, getD, List·getD-eq-default}
-use Rattle.decimal.specs.Decimal.{decimal}
 use Rattle.decimal.proofs.Stores as stores
 use Rattle.decimal.proofs.Stores.{Puts}
-use Rattle.decimal.proofs.BothWays.{decimal-most}
 use Rattle.text.specs.Commands.{words}
 use Rattle.text.proofs.Stores.{and-then}
-use Rattle.report.specs.Report.{Put}
+use Rattle.report.specs.Put.{Put}
 
 -- what was put where there is room for it stands there, and is at most so long as it may be
 pub stands : {room : ℕ} {out : List ℕ} {at : ℕ} {text after : List ℕ} {next : ℕ} → at + room ≤ length out → length text ≤ room

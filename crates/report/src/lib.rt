@@ -1,26 +1,30 @@
 // The report on a tape, two lines: its seed, and the verdict. The program judge prints it.
 //
-// The private functions put a part of it at a place, where there is room; each says how many bytes it may need, a decimal having at most 20.
+// The private functions put a part of it at a place, where there is room; each says how many bytes it may need, a
+// decimal having at most 20.
 ghost use mathlib.Core.Path.{_≡_};
 ghost use mathlib.Core.List.{[], _++_};
 ghost use Prim.Native.Nat.{_+_, _-_, _≤_};
 ghost use lib.ListN.{length, take, getD};
 ghost use Rattle.decimal.specs.Decimal.{decimal};
 ghost use Rattle.decimal.specs.Buffer.{contents-after, place-after};
-ghost use Rattle.text.specs.Commands.{words, said};
-ghost use Rattle.judging.specs.declared.Verdict.the-variants.{Refused};
-ghost use Rattle.report.specs.Report.{Put, place-of, stands-at, line-text, command-text, answer-text, answers-text, difference-text, verdict-text, report-text, report-room};
-use decimal::put_decimal;
-use judging::Answer;
+ghost use Rattle.text.specs.Commands.{words, operand-text};
+ghost use Rattle.judge_verdict.specs.declared.Verdict.the-variants.{Refused};
+ghost use Rattle.report_text.specs.Report.{stands-at, line-text, command-text, answer-text, answers-text};
+ghost use Rattle.report_text.specs.Report.{difference-text, verdict-text, report-text, report-room};
+ghost use Rattle.report.specs.Put.{Put};
+use decimal_print::put_decimal;
+use judge_record::place_of;
 use judging::Command;
 use judging::Difference;
 use judging::Judgement;
+use judging::Kept;
 use judging::Refusal;
 use judging::Verdict;
-use text::command::takes_a;
-use text::command::takes_b;
-use text::command::takes_value;
-use text::print::put_text;
+use text_command::takes_a;
+use text_command::takes_b;
+use text_command::takes_value;
+use text_print::put_text;
 
 fn put(out: &mut [u8], at: usize, text: &[u8]) -> usize
     requires { ⌜ at + length (now text) ≤ length (now out) ⌝ }
@@ -32,7 +36,8 @@ fn put(out: &mut [u8], at: usize, text: &[u8]) -> usize
 // A text, and a number behind it.
 fn put_named(out: &mut [u8], at: usize, text: &[u8], n: u64) -> usize
     requires { ⌜ at + (length (now text) + 20) ≤ length (now out) ⌝ }
-    ensures { λ r. ⌜ Put (length (now (text .entry)) + 20) (now (out .entry)) at (now (text .entry) ++ decimal n) (now (out .exit)) r ⌝ }
+    ensures { λ r. ⌜ Put (length (now (text .entry)) + 20) (now (out .entry)) at (now (text .entry) ++ decimal n)
+        (now (out .exit)) r ⌝ }
 {
     let next = put(out, at, text);
     put_decimal(out, next, n)
@@ -40,7 +45,8 @@ fn put_named(out: &mut [u8], at: usize, text: &[u8], n: u64) -> usize
 
 fn put_small(out: &mut [u8], at: usize, text: &[u8], n: u8) -> usize
     requires { ⌜ at + (length (now text) + 20) ≤ length (now out) ⌝ }
-    ensures { λ r. ⌜ Put (length (now (text .entry)) + 20) (now (out .entry)) at (now (text .entry) ++ decimal n) (now (out .exit)) r ⌝ }
+    ensures { λ r. ⌜ Put (length (now (text .entry)) + 20) (now (out .entry)) at (now (text .entry) ++ decimal n)
+        (now (out .exit)) r ⌝ }
 {
     put_named(out, at, text, n as u64)
 }
@@ -48,7 +54,8 @@ fn put_small(out: &mut [u8], at: usize, text: &[u8], n: u8) -> usize
 // A word: the first of these bytes, and how many.
 struct Word([u8; 7], usize);
 
-// The word of an op. (Op 0, which no command record has, has that of op 1: so the definition of a command's line has it.)
+// The word of an op. (Op 0, which no command record has, has that of op 1: so the definition of a command's line has
+// it.)
 fn word_of(op: u8) -> Word
     ensures { λ r. ⌜ (take (r .1) (r .0) ≡ getD words (op - 1) []) × (r .1 ≤ 7) × (length (r .0) ≡ 7) ⌝ }
 {
@@ -81,7 +88,7 @@ fn put_word(out: &mut [u8], at: usize, op: u8) -> usize
 // An operand behind a blank, if the op has it in its line.
 fn put_operand(out: &mut [u8], at: usize, used: bool, n: u64) -> usize
     requires { ⌜ at + 21 ≤ length (now out) ⌝ }
-    ensures { λ r. ⌜ Put 21 (now (out .entry)) at (said used n) (now (out .exit)) r ⌝ }
+    ensures { λ r. ⌜ Put 21 (now (out .entry)) at (operand-text used n) (now (out .exit)) r ⌝ }
 {
     if used {
         return put_named(out, at, b" ", n);
@@ -114,20 +121,13 @@ fn put_command(out: &mut [u8], at: usize, c: Command) -> usize
     put(out, end, b")")
 }
 
-fn put_answer(out: &mut [u8], at: usize, x: Answer) -> usize
+fn put_answer(out: &mut [u8], at: usize, x: Kept) -> usize
     requires { ⌜ at + 86 ≤ length (now out) ⌝ }
     ensures { λ r. ⌜ Put 86 (now (out .entry)) at (answer-text x) (now (out .exit)) r ⌝ }
 {
     let running = put_small(out, at, b"code ", x.code);
     let released = put_small(out, running, b", running ", x.running.0);
     put_small(out, released, b", released ", x.released.0)
-}
-
-// The byte at which a record begins. No tape has the records from 2^60 on.
-fn place(number: usize) -> usize
-    ensures { λ r. ⌜ r ≡ place-of number ⌝ }
-{
-    number << 4
 }
 
 fn put_where(out: &mut [u8], at: usize, number: usize, place: usize) -> usize
@@ -139,7 +139,7 @@ fn put_where(out: &mut [u8], at: usize, number: usize, place: usize) -> usize
 }
 
 // The answer on the tape, and the rules'.
-fn put_answers(out: &mut [u8], at: usize, tape: Answer, rules: Answer) -> usize
+fn put_answers(out: &mut [u8], at: usize, tape: Kept, rules: Kept) -> usize
     requires { ⌜ at + 189 ≤ length (now out) ⌝ }
     ensures { λ r. ⌜ Put 189 (now (out .entry)) at (answers-text tape rules) (now (out .exit)) r ⌝ }
 {
@@ -154,7 +154,7 @@ fn put_difference(out: &mut [u8], at: usize, d: Difference) -> usize
     ensures { λ r. ⌜ Put 428 (now (out .entry)) at (difference-text d) (now (out .exit)) r ⌝ }
 {
     let number = put(out, at, b"differs");
-    let colon = put_where(out, number, d.number, place(d.number));
+    let colon = put_where(out, number, d.number, place_of(d.number));
     let command = put(out, colon, b": ");
     let answers = put_command(out, command, d.command);
     put_answers(out, answers, d.tape, d.rules)
@@ -195,7 +195,8 @@ fn put_lines(out: &mut [u8], j: Judgement) -> usize
 
 // The report from place 0 on, and its length, where there is room for 512 bytes; else nothing, and 0.
 pub fn put_report(out: &mut [u8], j: Judgement) -> usize
-    ensures { λ r. ⌜ (r ≡ place-after report-room (now (out .entry)) 0 (report-text j)) × (now (out .exit) ≡ contents-after report-room (now (out .entry)) 0 (report-text j)) ⌝ }
+    ensures { λ r. ⌜ (r ≡ place-after report-room (now (out .entry)) 0 (report-text j))
+        × (now (out .exit) ≡ contents-after report-room (now (out .entry)) 0 (report-text j)) ⌝ }
 {
     if out.len() < 512 {
         return 0;

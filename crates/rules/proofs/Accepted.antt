@@ -1,6 +1,6 @@
 -- What an accepted command has shown: none of the checks held, and so its row of the op table is allowed; and which ops release.
 -- The one place where the theorems go through the kinds one by one; all others go by the row. Assumes nothing.
-use Prim.Native.Nat.{ℕ, zero, suc, _+_, _≤_, _<_, _^_}
+use Prim.Native.Nat.{ℕ, suc, _+_, _≤_, _<_, _^_}
 use native.Mathlib.Omega.{arith}
 use mathlib.Core.Path.{_≡_, refl, sym, ap, _∙_, subst}
 use mathlib.Core.Logic.{_≢_, _⊎_, inl, inr}
@@ -9,18 +9,20 @@ use mathlib.Core.List.{List, [], _∷_}
 use lib.Dec.{eqb, leb, ltb}
 use lib.ListN.{getD, List·getD-eq-default}
 use borrow.Author.Tests.{eqb-true, eq-eqb, eqb-false, ltb-true, ltb-false, leb-true, leb-false, le-ltb, not-false, not-true}
-use Rattle.rules.specs.Line.{at, within, all-below, front, empty, first-alone, at-tail, count}
-use Rattle.rules.specs.Machine.{Machine, Command, active, runner, created}
+use Rattle.rules.specs.Line.{at, within, all-below, front, empty, at-tail, count}
+use Rattle.rules.specs.Machine.{Machine, Command, last-opened, empty-handed, holders, active, runner}
 use Rattle.rules.specs.declared.Kind.{Kind}
 use Rattle.rules.specs.declared.Kind.the-variants.{NoKind, Creating, Declaring, Starting, Delaying, Waking, Advancing, Opening, Entering, Ending}
 use Rattle.rules.specs.declared.End.{End}
 use Rattle.rules.specs.Kinds.{kinds, last-op, kind-at, kind}
-use Rattle.rules.specs.Table.{Out, same, take, yield, sleep, await, Rel, none, due, serve, Effect, nothing, creates, declares, begins, moves, opens, closing, effect-of, effect, freed, enter, release}
+use Rattle.rules.specs.Table.{Out, same, take, yield, sleep, await, Rel, none, due, serve, Effect, nothing, creates, declares, begins, moves, opens}
+use Rattle.rules.specs.Table.{closing, effect-of, effect, freed, enter, release}
 use Rattle.rules.specs.Refusals.{checks-of, checks, first-number, refusal, fits, holds-so}
 use Rattle.rules.proofs.Words.{All}
-use Rattle.rules.proofs.Lists.{all-map, count-place}
-use Rattle.rules.proofs.Tests.{Tests, both-true, both-false, tests-is, tests-all-below}
-use Rattle.rules.proofs.Sounds.{Sound, Admits, act-held, object-known, object-real}
+use Rattle.rules.proofs.Lists.{all-map, all-few, count-place}
+use Rattle.rules.proofs.Tests.{both-true, tests-is, tests-all-below}
+use Rattle.rules.proofs.Hands.{act-held}
+use Rattle.rules.proofs.Sounds.{Sound, Admits, object-known, object-real}
 use Rattle.rules.proofs.Kept.{AllowedOut, MayLeave}
 use Rattle.rules.proofs.SetUp.{MayCreate, MayDeclare}
 
@@ -77,22 +79,22 @@ front-enter : (m : Machine) (us l : List ℕ) → 1 ≤ count 0 l → All (λ u.
 front-enter m [] l k h = refl
 front-enter m (u ∷ us) [] k h = absurd (omega arith)
 front-enter m (u ∷ us) (x ∷ l) k h =
-    rw (le-ltb (active m x) (at (m .base) u) (h .0)) (front-enter m us (x ∷ at-tail (active m) (at (m .base) u) u l) (omega (arith, count-place 0 (λ y. ltb (active m y) (at (m .base) u)) u l)) (h .1))
+    rw (le-ltb (active m x) (at (m .base) u) (h .0))
+    (front-enter m us (x ∷ at-tail (active m) (at (m .base) u) u l) (omega (arith, count-place 0 (λ y. ltb (active m y) (at (m .base) u)) u l)) (h .1))
 
 module _ (m : Machine) (s : Sound m) where
-  pub runner-stays : (o : ℕ) → at (m .held) (runner m) ≡ o → at (m .ceiling) o ≢ 0 → runner (release (serve o) m) ≡ runner m
+  pub runner-stays : (o k : ℕ) → last-opened m (runner m) ≡ o → at (m .ceiling) o ≢ 0 → runner (release (serve o k) m) ≡ runner m
   unfolding release
-  runner-stays o e n = front-enter m (freed (serve o) m) (m .ready) (s .idle-there) (first-all (getD (m .queue) o []) (all-map (λ u w. omega (arith, w .1, top)) (getD (m .queue) o []) (s .waiter-admitted o (object-known m s o n))))
+  runner-stays o k e n =
+      front-enter m (freed (serve o k) m) (m .ready) (s .idle-ready .idle-there)
+      (all-few (λ u. at (m .base) u ≤ active m (runner m)) k (getD (m .queue) o [])
+      (all-map (λ u w. omega (arith, w .1, top)) (getD (m .queue) o []) (s .all-admitted .waiter-admitted o (object-known m s o n))) .0)
     where
       top : active m (runner m) ≡ at (m .ceiling) o
       top = act-held m (runner m) (λ z. object-real m s o n (sym e ∙ z)) ∙ ap (at (m .ceiling)) e
 
-      first-all : (l : List ℕ) → All (λ u. at (m .base) u ≤ active m (runner m)) l → All (λ u. at (m .base) u ≤ active m (runner m)) (first-alone l)
-      first-all [] h = tt
-      first-all (x ∷ l) h = (h .0, tt)
-
   still : m .clock + 0 < 2 ^ 64
-  still = omega (arith, s .clock-fits)
+  still = omega (arith, s .in-time .clock-fits)
 
   -- What the checks of ops 4 and 7..11 leave, as far as they are alike.
   off-start : m .started ≡ false → m .started ≢ true
@@ -101,7 +103,7 @@ module _ (m : Machine) (s : Sound m) where
   is-declared : (o : ℕ) → not (not (eqb (at (m .ceiling) o) 0)) ≡ false → at (m .ceiling) o ≢ 0
   is-declared o h = eqb-false _ _ (not-true _ (not-false _ h))
 
-  leaves : eqb (runner m) 0 ≡ false → not (eqb (at (m .held) (runner m)) 0) ≡ false → MayLeave m
+  leaves : eqb (runner m) 0 ≡ false → not (empty-handed m (runner m)) ≡ false → MayLeave m
   leaves h k = record { busy = eqb-false _ _ h; bare = eqb-true _ _ (not-false _ k) }
 
   none-waits : (b : ℕ) (q : List ℕ) → eqb b 1 ≡ false → leb b 1 ≡ true → eqb b 0 && not (empty q) ≡ false → q ≡ []
@@ -113,19 +115,22 @@ module _ (m : Machine) (s : Sound m) where
       go [] e = refl
       go (x ∷ q) e = absurd (true≢false e)
 
-  closes-front : (o : ℕ) → not (not (eqb (at (m .ceiling) o) 0)) ≡ false → (w : ℕ) → not (holds-so m o w) ≡ false → (b : Bool) → runner (release (cond b (serve o) none) m) ≡ runner m
+  closes-front : (o : ℕ) → not (not (eqb (at (m .ceiling) o) 0)) ≡ false → (w : ℕ) → not (holds-so m o w) ≡ false → (b : Bool)
+      → runner (release (cond b (serve o 1) none) m) ≡ runner m
   unfolding release
-  closes-front o h w q true = runner-stays o (eqb-true _ _ (both-true _ _ (not-false _ q) .0)) (is-declared o h)
+  closes-front o h w q true = runner-stays o 1 (eqb-true _ _ (both-true _ _ (not-false _ q) .0)) (is-declared o h)
   closes-front o h w q false = refl
 
   -- The end of a body: the runner holds the object, in whatever way, and stays in front of whoever is served.
-  closes : (c : Command) (e : End) → m .started ≡ true → not (not (eqb (at (m .ceiling) (c .a)) 0)) ≡ false → runner m ≢ 0 → not (holds-so m (c .a) (e .way)) ≡ false
+  closes : (c : Command) (e : End) → m .started ≡ true → not (not (eqb (at (m .ceiling) (c .a)) 0)) ≡ false → runner m ≢ 0
+      → not (holds-so m (c .a) (e .way)) ≡ false
       → Allowed m (closing (e .serves) c)
   closes c e on there busy so =
       let k = closes-front (c .a) there (e .way) so (e .serves && opens c) in
       record { on = on; leaves = λ z. busy (sym k ∙ z); in-front = λ n. k; in-time = still }
 
-  enters : (o b : ℕ) → MayLeave m → Admits m o (runner m) → count o (m .held) ≡ 0 → leb b 1 ≡ true → eqb b 0 && not (empty (getD (m .queue) o [])) ≡ false → (x : Bool) → eqb b 1 ≡ x
+  enters : (o b : ℕ) → MayLeave m → Admits m o (runner m) → holders m o ≡ 0 → leb b 1 ≡ true → eqb b 0 && not (empty (getD (m .queue) o [])) ≡ false
+      → (x : Bool) → eqb b 1 ≡ x
       → AllowedOut m (cond x (take o 2) (await o))
   enters o b g a u l e true q = record { leaves = g; admits = a; unheld = u; in-one-way = (omega arith, omega arith) }
   enters o b g a u l e false q = record { leaves = g; admits = a; alone = none-waits b (getD (m .queue) o []) q l e }
@@ -138,8 +143,8 @@ module _ (m : Machine) (s : Sound m) where
   admitted : (o : ℕ) → not (not (eqb (at (m .ceiling) o) 0)) ≡ false → ltb (at (m .ceiling) o) (at (m .base) (runner m)) ≡ false → Admits m o (runner m)
   admitted o there top = (is-declared o there, ltb-false _ _ top)
 
-  unheld : (o : ℕ) → leb 1 (count o (m .held)) ≡ false → count o (m .held) ≡ 0
-  unheld o free = let z : count o (m .held) < 1 = leb-false _ _ free in omega arith
+  unheld : (o : ℕ) → leb 1 (holders m o) ≡ false → holders m o ≡ 0
+  unheld o free = let z : holders m o < 1 = leb-false _ _ free in omega arith
 
   -- Kind by kind.
   by-kind : (c : Command) (k : Kind) → ((n : ℕ) → numbered n (checks-of k m c) ≡ false) → Allowed m (effect-of k m c)
@@ -158,16 +163,26 @@ module _ (m : Machine) (s : Sound m) where
   by-kind c Starting p = off-start (p 3)
   by-kind c Delaying p =
       let f = both-true (eqb (c .a) 0 && eqb (c .b) 0) (ltb (c .value) (2 ^ 64)) (not-false _ (p 4)) .1 in
-      record { on = not-false _ (p 2); leaves = delays (c .value) (leaves (p 7) (p 8)) f (ltb (m .clock) (c .value)) refl; in-front = λ n. refl; in-time = still }
-  by-kind c Waking p = record { on = not-false _ (p 2); leaves = tt; in-front = λ n. absurd (n refl); in-time = still }
-  by-kind c Advancing p = record { on = not-false _ (p 2); leaves = tt; in-front = λ n. absurd (n refl); in-time = ltb-true _ _ (not-false _ (p 13)) }
-  by-kind c Opening p =
       record {
         on = not-false _ (p 2);
-        leaves = record { leaves = leaves (p 7) (p 8); admits = admitted (c .a) (p 6) (p 10); unheld = unheld (c .a) (p 11); in-one-way = (omega arith, omega arith) };
+        leaves = delays (c .value) (leaves (p 7) (p 8)) f (ltb (m .clock) (c .value)) refl;
         in-front = λ n. refl;
         in-time = still;
       }
+  by-kind c Waking p = record { on = not-false _ (p 2); leaves = tt; in-front = λ n. absurd (n refl); in-time = still }
+  by-kind c Advancing p = record { on = not-false _ (p 2); leaves = tt; in-front = λ n. absurd (n refl); in-time = ltb-true _ _ (not-false _ (p 13)) }
+  by-kind c Opening p = record {
+    on = not-false _ (p 2);
+    leaves =
+        record {
+          leaves = leaves (p 7) (p 8);
+          admits = admitted (c .a) (p 6) (p 10);
+          unheld = unheld (c .a) (p 11);
+          in-one-way = (omega arith, omega arith);
+        };
+    in-front = λ n. refl;
+    in-time = still;
+  }
   by-kind c Entering p =
       let f = both-true (within 1 7 (c .a)) (leb (c .b) 1) (both-true (within 1 7 (c .a) && leb (c .b) 1) (eqb (c .value) 0) (not-false _ (p 4)) .0) .1 in
       record {
@@ -189,7 +204,7 @@ rel-of (declares o p) = none
 rel-of begins = none
 rel-of (moves out rel n) = rel
 
-pub not-due : {A : Type 0} (b : Bool) (o : ℕ) → cond b (serve o) none ≡ due → A
+pub not-due : {A : Type 0} (b : Bool) (o : ℕ) → cond b (serve o 1) none ≡ due → A
 not-due true o e = let z : _≡_ {A = ℕ} 0 1 = cc in absurd (omega arith)
 not-due false o e = let z : _≡_ {A = ℕ} 0 1 = cc in absurd (omega arith)
 
@@ -223,7 +238,7 @@ releases m c Opening = nobody refl
 releases m c Entering = nobody refl
 releases m c (Ending e) = go (e .serves) refl
   where
-    go : (b : Bool) → e .serves ≡ b → Releases (Ending e) (cond (e .serves && opens c) (serve (c .a)) none)
+    go : (b : Bool) → e .serves ≡ b → Releases (Ending e) (cond (e .serves && opens c) (serve (c .a) 1) none)
     go true s = served (rw s) (not-due (e .serves && opens c) (c .a))
     go false s = nobody (rw s)
 

@@ -12,75 +12,88 @@ use lib.Dec.{eqb}
 use lib.ListN.{getD, set, length, length-set, List·getD-eq-default}
 use lib.Seq.{getD-set-same}
 use borrow.Author.Tests.{eqb-true}
-use Rattle.rules.specs.Line.{at, front, rest}
+use Rattle.rules.specs.Line.{at, front, behind-front, behind-few}
 use Rattle.rules.specs.Machine.{Machine, Command, active, runner}
-use Rattle.rules.specs.Table.{Rel, Effect, close, yield, sleep, none, serve, due, creates, moves, closing, freed, freed-by, effect, release, leave, carry}
+use Rattle.rules.specs.Table.{Rel, Effect, close, yield, sleep, none, serve, due, creates, moves, closing, freed, freed-by, effect, release, leave}
+use Rattle.rules.specs.Table.{carry}
 use Rattle.rules.specs.Run.{accepts, next, released}
-use Rattle.rules.proofs.Words.{Pairwise}
-use Rattle.rules.proofs.Lists.{pairwise-rest, all-at, lt-or-ge}
+use Rattle.rules.proofs.Words.{Pairwise, Free, Ordered}
+use Rattle.rules.proofs.Lists.{pairwise-behind, all-at, lt-or-ge}
 use Rattle.rules.proofs.Sounds.{Sound}
 use Rattle.rules.proofs.Placing.{Split, tail-splits, head-splits, time-splits}
-use Rattle.rules.proofs.Kept.{behind-falls, new-held, release-sound}
+use Rattle.rules.proofs.Kept.{behind-falls, new-hand, release-sound}
 use Rattle.rules.proofs.Accepted.{Allowed, allowed}
 
 module _ (m : Machine) (s : Sound m) where
   -- A closing runner goes to the head of its base: behind every task with active above it, before all others.
-  pub closer-to-head : let n = leave close m in Split (λ y. at (m .base) (runner m) < active n y) (λ y. active n y < suc (at (m .base) (runner m))) (runner m) (rest (m .ready)) (n .ready)
+  pub closer-to-head : let n = leave close m in let p = at (m .base) (runner m) in
+      Split (λ y. p < active n y) (λ y. active n y < suc p) (runner m) (behind-front (m .ready)) (n .ready)
   unfolding leave
-  closer-to-head = head-splits (active (leave close m)) (at (m .base) (runner m)) (runner m) (rest (m .ready)) (behind-falls m s 0)
+  closer-to-head = head-splits (active (leave close m)) (at (m .base) (runner m)) (runner m) (behind-front (m .ready)) (behind-falls m s 0 0)
 
   -- A runner that yields goes to the tail of its base: behind every task with active at least that.
-  pub yielder-to-tail : Split (λ y. at (m .base) (runner m) ≤ active m y) (λ y. active m y < at (m .base) (runner m)) (runner m) (rest (m .ready)) (leave yield m .ready)
+  pub yielder-to-tail : let p = at (m .base) (runner m) in
+      Split (λ y. p ≤ active m y) (λ y. active m y < p) (runner m) (behind-front (m .ready)) (leave yield m .ready)
   unfolding leave
-  yielder-to-tail = tail-splits (active m) (at (m .base) (runner m)) (runner m) (rest (m .ready)) (pairwise-rest (λ a b. active m b ≤ active m a) (m .ready) (s .ready-falls))
+  yielder-to-tail =
+      tail-splits (active m) (at (m .base) (runner m)) (runner m) (behind-front (m .ready)) (pairwise-behind (Ordered m) (m .ready) (s .in-order .ready-falls))
 
   -- A sleeper goes behind every entry of an equal or earlier time, before every later one.
   pub sleeper-by-time : (d : ℕ) → Split (λ f. f .0 ≤ d) (λ f. d < f .0) (d, runner m) (m .delay) (leave (sleep d) m .delay)
   unfolding leave
-  sleeper-by-time d = time-splits (d, runner m) (m .delay) (s .times-rise)
+  sleeper-by-time d = time-splits (d, runner m) (m .delay) (s .in-order .times-rise)
 
   -- A released task t goes to the tail of its base, whether it was due or waited.
-  pub woken-to-tail : (t : ℕ) → freed due m ≡ t ∷ [] → Split (λ y. at (m .base) t ≤ active m y) (λ y. active m y < at (m .base) t) t (m .ready) (release due m .ready)
+  pub woken-to-tail : (t : ℕ) → freed due m ≡ t ∷ []
+      → Split (λ y. at (m .base) t ≤ active m y) (λ y. active m y < at (m .base) t) t (m .ready) (release due m .ready)
   unfolding release
-  woken-to-tail t e = rw e (tail-splits (active m) (at (m .base) t) t (m .ready) (s .ready-falls))
+  woken-to-tail t e = rw e (tail-splits (active m) (at (m .base) t) t (m .ready) (s .in-order .ready-falls))
 
-  pub served-to-tail : (o t : ℕ) → freed (serve o) m ≡ t ∷ [] → Split (λ y. at (m .base) t ≤ active m y) (λ y. active m y < at (m .base) t) t (m .ready) (release (serve o) m .ready)
+  pub served-to-tail : (o n t : ℕ) → freed (serve o n) m ≡ t ∷ []
+      → Split (λ y. at (m .base) t ≤ active m y) (λ y. active m y < at (m .base) t) t (m .ready) (release (serve o n) m .ready)
   unfolding release
-  served-to-tail o t e = rw e (tail-splits (active m) (at (m .base) t) t (m .ready) (s .ready-falls))
+  served-to-tail o n t e = rw e (tail-splits (active m) (at (m .base) t) t (m .ready) (s .in-order .ready-falls))
 
   -- A created task goes to the tail of its base, among tasks that hold nothing: behind every task with active at least that.
   pub created-to-tail : (t p : ℕ) → let n = carry m (creates t p) in
-      Pairwise (λ a b. active n b ≤ active n a) (m .ready) → Split (λ y. p ≤ active n y) (λ y. active n y < p) t (m .ready) (n .ready)
+      Pairwise (Ordered n) (m .ready) → Split (λ y. p ≤ active n y) (λ y. active n y < p) t (m .ready) (n .ready)
   unfolding carry
   created-to-tail t p k = tail-splits (active (carry m (creates t p))) p t (m .ready) k
 
   -- Whoever closes, whomever it releases, holds nothing.
-  emptied : (rel : Rel) (n : ℕ) → Allowed m (moves close rel n) → at (carry m (moves close rel n) .held) (runner m) ≡ 0
+  emptied : (rel : Rel) (n : ℕ) → Allowed m (moves close rel n) → Free (carry m (moves close rel n)) (runner m)
   unfolding carry leave
   emptied rel n g =
-      subst (λ (x : ℕ). at (leave close (release rel m) .held) x ≡ 0) (g .in-front (λ e. let z : _≡_ {A = ℕ} 0 1 = cc in absurd (omega arith))) (new-held (release rel m) (release-sound m s (g .on) rel) 0)
+      subst (Free (leave close (release rel m))) (g .in-front (λ e. let z : _≡_ {A = ℕ} 0 1 = cc in absurd (omega arith)))
+      (new-hand (release rel m) (release-sound m s (g .on) rel) 0 0)
 
   -- Whom the end of a body with a barrier releases: with barrier 1 the first that waits on the object, with barrier 0 nobody.
   serves : (c : Command) → freed-by (closing true c) m ≡ cond (eqb (c .b) 1) (front 0 (getD (m .queue) (c .a) [])) 0
   serves c = go (eqb (c .b) 1) (getD (m .queue) (c .a) []) refl
     where
-      go : (x : Bool) (q : List ℕ) → getD (m .queue) (c .a) [] ≡ q → front 0 (freed (cond x (serve (c .a)) none) m) ≡ cond x (front 0 q) 0
+      go : (x : Bool) (q : List ℕ) → getD (m .queue) (c .a) [] ≡ q → front 0 (freed (cond x (serve (c .a) 1) none) m) ≡ cond x (front 0 q) 0
       go true [] e = rw e
       go true (t ∷ q) e = rw e
       go false q e = refl
 
   -- Behind barrier 1 nobody waits on the object any more.
-  none-wait : (o : ℕ) → getD (carry m (moves close (serve o) 0) .queue) o [] ≡ []
+  none-wait : (o : ℕ) → getD (carry m (moves close (serve o 1) 0) .queue) o [] ≡ []
   unfolding carry leave release
-  none-wait o = ⊎-elim (λ (h : o < length (m .queue)). getD-set-same (m .queue) o _ [] h ∙ alone (getD (m .queue) o []) (all-at (λ q. length q ≤ 1) (m .queue) o [] (omega arith) (s .waiters))) past (lt-or-ge o (length (m .queue)))
+  none-wait o =
+      ⊎-elim
+      (λ (h : o < length (m .queue)).
+      getD-set-same (m .queue) o _ [] h ∙ alone (getD (m .queue) o []) (all-at (λ q. length q ≤ 1) (m .queue) o [] (omega arith) (s .one-each .waiters)))
+      past (lt-or-ge o (length (m .queue)))
     where
-      alone : (q : List ℕ) → length q ≤ 1 → rest q ≡ []
+      alone : (q : List ℕ) → length q ≤ 1 → behind-few 1 q ≡ []
       alone [] h = refl
       alone (x ∷ []) h = refl
       alone (x ∷ (y ∷ q)) h = absurd (omega arith)
 
-      past : length (m .queue) ≤ o → getD (set (m .queue) o (rest (getD (m .queue) o []))) o [] ≡ []
-      past h = List·getD-eq-default (set (m .queue) o (rest (getD (m .queue) o []))) [] {n = o} (let z = length-set (m .queue) o (rest (getD (m .queue) o [])) in omega arith)
+      past : length (m .queue) ≤ o → getD (set (m .queue) o (behind-few 1 (getD (m .queue) o []))) o [] ≡ []
+      past h =
+          List·getD-eq-default (set (m .queue) o (behind-few 1 (getD (m .queue) o []))) [] {n = o}
+          (let z = length-set (m .queue) o (behind-few 1 (getD (m .queue) o [])) in omega arith)
 
 -- The rows of the three closings: closep and done have the same.
 closep-row : (m : Machine) (c : Command) → c .op ≡ 8 → effect m c ≡ closing true c
@@ -97,14 +110,15 @@ done-row m c e = rw e
 pub shut-done-is-old : (m : Machine) (c : Command) → c .op ≡ 11 → c .b ≡ 0 → effect m c ≡ moves close none 0
 shut-done-is-old m c e z = rw (e, z)
 
-pub closed-holds-nothing : (m : Machine) → Sound m → (c : Command) → accepts m c ≡ true → (c .op ≡ 8) ⊎ (c .op ≡ 9) ⊎ (c .op ≡ 11) → at (next m c .held) (runner m) ≡ 0
+pub closed-holds-nothing : (m : Machine) → Sound m → (c : Command) → accepts m c ≡ true → (c .op ≡ 8) ⊎ (c .op ≡ 9) ⊎ (c .op ≡ 11) → Free (next m c) (runner m)
 unfolding next
 closed-holds-nothing m s c ok op = rw ok (go op)
   where
-    of-row : (rel : Rel) → effect m c ≡ moves close rel 0 → at (carry m (effect m c) .held) (runner m) ≡ 0
-    of-row rel e = subst (λ (x : Effect). Allowed m x → at (carry m x .held) (runner m) ≡ 0) (sym e) (λ g. emptied m s rel 0 g) (allowed m s c (eqb-true _ _ ok))
+    of-row : (rel : Rel) → effect m c ≡ moves close rel 0 → Free (carry m (effect m c)) (runner m)
+    of-row rel e =
+        subst (λ (x : Effect). Allowed m x → Free (carry m x) (runner m)) (sym e) (λ g. emptied m s rel 0 g) (allowed m s c (eqb-true _ _ ok))
 
-    go : (c .op ≡ 8) ⊎ (c .op ≡ 9) ⊎ (c .op ≡ 11) → at (carry m (effect m c) .held) (runner m) ≡ 0
+    go : (c .op ≡ 8) ⊎ (c .op ≡ 9) ⊎ (c .op ≡ 11) → Free (carry m (effect m c)) (runner m)
     go (inl e) = of-row _ (closep-row m c e)
     go (inr (inl e)) = of-row none (closef-row m c e)
     go (inr (inr e)) = of-row _ (done-row m c e)

@@ -7,6 +7,7 @@ pub mod Words
 pub mod Lists
 pub mod Tests
 pub mod Placing
+pub mod Hands
 pub mod Sounds
 pub mod Kept
 pub mod SetUp
@@ -14,6 +15,7 @@ pub mod Accepted
 pub mod Step
 pub mod Wakes
 pub mod Clear
+pub mod Before
 pub mod Release
 pub mod Goes
 pub mod Theorems

@@ -58,7 +58,8 @@ tail-splits act p t l k =
     (pairwise-map {P = λ y. Unit {0}} (λ a b u v w e. (let z : act a < p = ltb-true _ _ e in lt-ltb (act b) p (omega arith))) l (all-every (λ y. tt) l) k))
 
 -- At the head of p: behind every task with active above p, before all others.
-pub head-splits : (act : ℕ → ℕ) (p t : ℕ) (l : List ℕ) → Pairwise (λ a b. act b ≤ act a) l → Split (λ y. p < act y) (λ y. act y < suc p) t l (at-head act p t l)
+pub head-splits : (act : ℕ → ℕ) (p t : ℕ) (l : List ℕ) → Pairwise (λ a b. act b ≤ act a) l
+    → Split (λ y. p < act y) (λ y. act y < suc p) t l (at-head act p t l)
 head-splits act p t l k = tail-splits act (suc p) t l k
 
 -- Into the delay line: behind every entry of an equal or earlier time, before every later one.
@@ -66,4 +67,5 @@ pub time-splits : (e : ℕ × ℕ) (l : List (ℕ × ℕ)) → Pairwise (λ f g.
 time-splits e l k =
     reads-as (λ f. ltb (e .0) (f .0)) e (λ f. f .0 ≤ e .0) (λ f. e .0 < f .0) (λ f. ltb-false (e .0) (f .0)) (λ f. ltb-true (e .0) (f .0)) l
     (place-splits (λ f. ltb (e .0) (f .0)) e l
-    (pairwise-map {P = λ f. Unit {0}} (λ f g u v w q. (let z : e .0 < f .0 = ltb-true _ _ q in lt-ltb (e .0) (g .0) (omega arith))) l (all-every (λ f. tt) l) k))
+    (pairwise-map {P = λ f. Unit {0}} (λ f g u v w q. (let z : e .0 < f .0 = ltb-true _ _ q in lt-ltb (e .0) (g .0) (omega arith))) l
+    (all-every (λ f. tt) l) k))

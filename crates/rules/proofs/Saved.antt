@@ -12,25 +12,21 @@ use Rattle.rules.specs.Line.{at, all-below, one-if}
 use Rattle.rules.specs.Machine.{Machine, Command, fresh, running, for-open, for-entry}
 use Rattle.rules.specs.Table.{with-set-up, with-lines, with-hands, later, carry, leave, release}
 use Rattle.rules.specs.Refusals.{refusal}
-use Rattle.rules.specs.Sound.{tables-sized, in-time, idle-ready, stand-once, in-order, in-range, hold-one, one-each, holders-ready, all-admitted, quiet-before-start, sound}
+use Rattle.rules.specs.Sound.{conditions, sound}
 use Rattle.rules.specs.Run.{Answer, next, released, answer, run, answers}
 use Rattle.rules.proofs.Words.{All, moments}
 use Rattle.rules.proofs.Script.{create, object, start, delay, wake, advance, open′, closep, entry, made, _▸_, otherwise}
 use Rattle.rules.proofs.Limits.{forged}
 
--- The conditions of document 01's list, in the order of `sound`: 1 the tables' sizes, 2 the times, 3 idle, 4 each task stands once, 5 both lines in
+-- The conditions of document 01's list, in its order: 1 the tables' sizes, 2 the times, 3 idle, 4 each task stands once, 5 both lines in
 -- order, 6 bases and ceilings in range, 7 a task holds at most one object, 8 an object has at most one holder and one waiter, 9 a holder is ready,
 -- 10 holder and waiter are admitted, 11 before Start. What is said of a state: 1 if it is sound, else 0; and the conditions that fail.
-abbrev failing : ℕ → List Bool → List ℕ
-failing n [] = []
-failing n (b ∷ l) = cond b (failing (suc n) l) (n ∷ failing (suc n) l)
+abbrev failing : ℕ → Machine → List (Machine → Bool) → List ℕ
+failing n m [] = []
+failing n m (meets ∷ l) = cond (meets m) (failing (suc n) m l) (n ∷ failing (suc n) m l)
 
 abbrev judged : Machine → List ℕ
-judged m =
-    one-if (sound m) ∷
-    failing 1
-    (tables-sized m ∷ in-time m ∷ idle-ready m ∷ stand-once m ∷ in-order m ∷ in-range m ∷
-    hold-one m ∷ one-each m ∷ holders-ready m ∷ all-admitted m ∷ quiet-before-start m ∷ [])
+judged m = one-if (sound m) ∷ failing 1 m conditions
 
 abbrev sound-row : Machine → Machine × List ℕ
 sound-row m = (m, 1 ∷ [])
@@ -179,4 +175,5 @@ unfolding sound all-below run moments released next refusal carry leave release
 not-of-every-sound-state f =
     let lower : 1 < 5 = omega arith in
     eqb-false 21 22 refl
-    (f two-holders wake [] (closep 4 0 ∷ []) refl (eqb-false 23 0 refl) (eqb-false 21 23 refl, tt) (eqb-false 21 23 refl, (eqb-false 22 23 refl, tt)) lower lower)
+    (f two-holders wake [] (closep 4 0 ∷ []) refl (eqb-false 23 0 refl) (eqb-false 21 23 refl, tt)
+    (eqb-false 21 23 refl, (eqb-false 22 23 refl, tt)) lower lower)

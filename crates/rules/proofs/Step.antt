@@ -8,7 +8,8 @@ use lib.Dec.{eqb}
 use borrow.Author.Tests.{eqb-true}
 use Rattle.rules.specs.Line.{all-below}
 use Rattle.rules.specs.Machine.{Machine, Command, fresh}
-use Rattle.rules.specs.Table.{Out, same, take, yield, close, sleep, await, Rel, none, due, serve, Effect, nothing, creates, declares, begins, moves, effect, release, leave, carry, freed-by}
+use Rattle.rules.specs.Table.{Out, same, take, yield, close, sleep, await, Rel, none, due, serve, Effect, nothing, creates, declares, begins, moves}
+use Rattle.rules.specs.Table.{effect, release, leave, carry, freed-by}
 use Rattle.rules.specs.Refusals.{refusal}
 use Rattle.rules.specs.Sound.{sound}
 use Rattle.rules.specs.Run.{next, released, run}
@@ -23,7 +24,7 @@ release-clock : (rel : Rel) (m : Machine) → release rel m .clock ≡ m .clock
 unfolding release
 release-clock none m = refl
 release-clock due m = refl
-release-clock (serve o) m = refl
+release-clock (serve o n) m = refl
 
 leave-clock : (out : Out) (m : Machine) → leave out m .clock ≡ m .clock
 unfolding leave
@@ -38,7 +39,7 @@ pub release-started : (rel : Rel) (m : Machine) → release rel m .started ≡ m
 unfolding release
 release-started none m = refl
 release-started due m = refl
-release-started (serve o) m = refl
+release-started (serve o n) m = refl
 
 pub leave-started : (out : Out) (m : Machine) → leave out m .started ≡ m .started
 unfolding leave
@@ -61,11 +62,12 @@ unfolding carry
 carry-sound m s nothing g = s
 carry-sound m s (creates t p) g = create-sound m s t p g
 carry-sound m s (declares o p) g = declare-sound m s o p g
-carry-sound m s begins g = timed-sound m s (m .clock) true (s .clock-fits) refl
+carry-sound m s begins g = timed-sound m s (m .clock) true (s .in-time .clock-fits) refl
 carry-sound m s (moves out rel n) g =
     let n₁ = release-sound m s (g .on) rel in
     let n₂ = leave-sound (release rel m) n₁ (release-started rel m ∙ g .on) out (g .leaves) in
-    timed-sound (leave out (release rel m)) n₂ (leave out (release rel m) .clock + n) (leave out (release rel m) .started) (rw (moved-clock out rel m) (g .in-time)) (moved-started out rel m ∙ g .on)
+    timed-sound (leave out (release rel m)) n₂ (leave out (release rel m) .clock + n) (leave out (release rel m) .started)
+    (rw (moved-clock out rel m) (g .in-time)) (moved-started out rel m ∙ g .on)
 
 -- The two ways of a step.
 pub data Step (m : Machine) (c : Command) : Type 0 where

@@ -46,7 +46,23 @@ pub tests-map : {b : Bool} {P Q : Type 0} → (P → Q) → (Q → P) → Tests 
 tests-map f g t = record { sure = λ e. f (t .sure e); found = λ q. t .found (g q) }
 
 pub tests-and : {a b : Bool} {P Q : Type 0} → Tests a P → Tests b Q → Tests (a && b) (P × Q)
-tests-and {a} {b} p q = record { sure = λ e. (let w = both-true a b e in (p .sure (w .0), q .sure (w .1))); found = λ w. rw (p .found (w .0), q .found (w .1)) }
+tests-and {a} {b} p q =
+    record { sure = λ e. (let w = both-true a b e in (p .sure (w .0), q .sure (w .1))); found = λ w. rw (p .found (w .0), q .found (w .1)) }
+
+-- one test behind another, as `a && b && c` stands
+infixl 4 _also_
+abbrev pub _also_ : {a b : Bool} {P Q : Type 0} → Tests a P → Tests b Q → Tests (a && b) (P × Q)
+p also q = tests-and p q
+
+-- A record of facts, each with its test: the first fact and what it is in the record, then the others. So a law over a record is a line for each field.
+pub tests-field : {a b : Bool} {P R : Type 0} → Tests a P → (R → P) → (P → Tests b R) → Tests (a && b) R
+tests-field {a} {b} t part more = record {
+  sure = λ e. (let w = both-true a b e in more (t .sure (w .0)) .sure (w .1));
+  found = λ r. rw (t .found (part r), more (part r) .found r);
+}
+
+pub tests-record : {R : Type 0} → R → Tests true R
+tests-record r = record { sure = λ e. r; found = λ r. refl }
 
 -- "it holds nothing, or .." is an implication
 pub tests-or : {a b : Bool} {P Q : Type 0} → Tests a P → Tests b Q → Tests (a || b) ((P → ⊥) → Q)
@@ -80,16 +96,19 @@ tests-every t [] = record { sure = λ e. tt; found = λ k. refl }
 tests-every t (x ∷ l) = tests-and (t x) (tests-every t l)
 
 -- of a relation that carries on, each two neighbours are as good as each two
-pub tests-neighbours : {A : Type 0} {f : A → A → Bool} (R : A → A → Type 0) → ((a b c : A) → R a b → R b c → R a c) → ((a b : A) → Tests (f a b) (R a b)) → (l : List A) → Tests (neighbours f l) (Pairwise R l)
+pub tests-neighbours : {A : Type 0} {f : A → A → Bool} (R : A → A → Type 0) → ((a b c : A) → R a b → R b c → R a c) → ((a b : A) → Tests (f a b) (R a b))
+    → (l : List A) → Tests (neighbours f l) (Pairwise R l)
 tests-neighbours R on t [] = record { sure = λ e. tt; found = λ k. refl }
 tests-neighbours R on t (x ∷ []) = record { sure = λ e. (tt, tt); found = λ k. refl }
 tests-neighbours R on t (x ∷ (y ∷ l)) =
-    tests-map (λ w. ((w .0, all-map (λ z k. on x y z (w .0) k) l (w .1 .0)), w .1)) (λ k. (k .0 .0, k .1)) (tests-and (t x y) (tests-neighbours R on t (y ∷ l)))
+    tests-map (λ w. ((w .0, all-map (λ z k. on x y z (w .0) k) l (w .1 .0)), w .1)) (λ k. (k .0 .0, k .1))
+    (tests-and (t x y) (tests-neighbours R on t (y ∷ l)))
 
 pub tests-all-below : {f : ℕ → Bool} {P : ℕ → Type 0} → ((a : ℕ) → Tests (f a) (P a)) → (n : ℕ) → Tests (all-below n f) ((a : ℕ) → a < n → P a)
 unfolding all-below
 tests-all-below t zero = record { sure = λ e a h. absurd (omega arith); found = λ k. refl }
-tests-all-below {f} {P} t (suc n) = tests-map (λ w a h. up w a h (eqb a n) refl) (λ k. (k n (omega arith), λ a h. k a (omega arith))) (tests-and (t n) (tests-all-below t n))
+tests-all-below {f} {P} t (suc n) =
+    tests-map (λ w a h. up w a h (eqb a n) refl) (λ k. (k n (omega arith), λ a h. k a (omega arith))) (tests-and (t n) (tests-all-below t n))
   where
     up : P n × ((a : ℕ) → a < n → P a) → (a : ℕ) → a < suc n → (b : Bool) → eqb a n ≡ b → P a
     up w a h true e = rw (eqb-true a n e) (w .0)

@@ -11,18 +11,19 @@ use lib.Dec.{eqb, ltb}
 use lib.ListN.{getD, replicate}
 use borrow.Author.Tests.{ne-eqb}
 use Rattle.rules.specs.Line.{at, front, neighbours}
-use Rattle.rules.specs.Machine.{Machine, Command, fresh, runner, running}
+use Rattle.rules.specs.Machine.{Machine, Command, fresh, last-opened, runner, running}
 use Rattle.rules.specs.declared.Kind.{Kind}
 use Rattle.rules.specs.declared.Kind.the-variants.{NoKind, Creating, Declaring, Starting, Delaying, Waking, Advancing, Opening, Entering, Ending}
-use Rattle.rules.specs.declared.End.{End}
 use Rattle.rules.specs.Refusals.{behind-range, refusal}
 use Rattle.rules.specs.Sound.{sound}
 use Rattle.rules.specs.Run.{accepts, next, released, answer, run, answers, question, wakes-left}
-use Rattle.rules.proofs.Words.{All, Pairwise, moments, wakes, wakes-in, DueAt, Clear}
+use Rattle.rules.proofs.Words.{All, Pairwise, Free, Holding, moments, wakes, wakes-in, DueAt, Clear}
 use Rattle.rules.proofs.Lists.{pairwise-map, all-every}
-use Rattle.rules.proofs.Sounds.{Sound, tests-sound, act-held}
+use Rattle.rules.proofs.Hands.{act-held}
+use Rattle.rules.proofs.Sounds.{Sound, tests-sound}
 use Rattle.rules.proofs.Step.{next-sound, run-sound, fresh-test, fresh-sound}
-use Rattle.rules.proofs.Wakes.{a-wake, keeps-its-turn, at-wake, left-is-due, due-is-left, question-left, left-question, wakes-in-row, row-of-wakes, wake-takes-due}
+use Rattle.rules.proofs.Wakes.{a-wake, keeps-its-turn, at-wake, left-is-due, due-is-left, question-left, left-question, wakes-in-row, row-of-wakes}
+use Rattle.rules.proofs.Wakes.{wake-takes-due}
 use Rattle.rules.proofs.Clear.{next-clear, run-clear, fresh-clear}
 use Rattle.rules.proofs.Release.{released-behind, released-based, released-by, lower-runs, first-moment}
 use Rattle.rules.proofs.Goes.{closed-holds-nothing, closing-serves, served-waits-no-more, shut-keeps-waiters}
@@ -123,17 +124,18 @@ step-keeps-clear m c e k = next-clear m (tests-sound m .sure e) k c
 
 -- The same over runs, with the ceiling by its own name.
 pub ahead-of-a-holder : (before : List Command) → let m = run fresh before in
-    Pairwise (λ a b. at (m .held) b ≢ 0 → at (m .ceiling) (at (m .held) b) < at (m .base) a) (m .ready)
+    Pairwise (λ a b. Holding m b → at (m .ceiling) (last-opened m b) < at (m .base) a) (m .ready)
 unfolding Clear
 ahead-of-a-holder before =
     let m = run fresh before in
-    pairwise-map {P = λ x. Unit {0}} (λ a b u v w n. rw (act-held m b n) at (w n)) (m .ready) (all-every (λ x. tt) (m .ready)) (run-clear before fresh fresh-sound fresh-clear)
+    pairwise-map {P = λ x. Unit {0}} (λ a b u v w n. rw (act-held m b n) at (w n)) (m .ready) (all-every (λ x. tt) (m .ready))
+    (run-clear before fresh fresh-sound fresh-clear)
 
 -- An accepted closing (closep, closef, done) leaves the runner's hands empty: what the promise below calls "closed" is "no longer held".
 -- Rules out: closings that do nothing, or that keep the object. Leaves: whom a closing releases (below); a machine that accepts none, as one that never
 -- starts (the walk).
 pub closing-empties : (before : List Command) (c : Command) → let m = run fresh before in
-    accepts m c ≡ true → (c .op ≡ 8) ⊎ (c .op ≡ 9) ⊎ (c .op ≡ 11) → at (next m c .held) (runner m) ≡ 0
+    accepts m c ≡ true → (c .op ≡ 8) ⊎ (c .op ≡ 9) ⊎ (c .op ≡ 11) → Free (next m c) (runner m)
 closing-empties before c ok op = closed-holds-nothing (run fresh before) (run-sound before fresh fresh-sound) c ok op
 
 -- ## The order of the checks
@@ -192,16 +194,19 @@ released-by-three before c n = released-by (run fresh before) (run-sound before 
 pub release-promise : (before : List Command) (c : Command) → let m = run fresh before in let now = next m c in let t = released m c in
     t ≢ 0 → (low : ℕ) × (object : ℕ) × ((after : List Command) → All (λ s. running s ≢ t) (moments now after)
     → let then = run now after in at (now .base) (running then) < at (now .base) t
-    → (running then ≡ low) × (object ≢ 0) × All (λ s. at (s .held) low ≡ object) (moments now after))
+    → (running then ≡ low) × (object ≢ 0) × All (λ s. last-opened s low ≡ object) (moments now after))
 release-promise before c n =
     let m = run fresh before in
     let s = run-sound before fresh fresh-sound in
     let w = released-behind m s (run-clear before fresh fresh-sound fresh-clear) c n in
-    (w .0, at (m .held) (w .0), λ after k lt. lower-runs after (next m c) (next-sound m s c) (w .2) (released m c) (at (m .base) (released m c)) (w .0) (at (m .held) (w .0)) (w .1) k (rw (w .1 .rank) at lt))
+    let t = released m c in
+    let object = last-opened m (w .0) in
+    (w .0, object, λ after k lt. lower-runs after (next m c) (next-sound m s c) (w .2) t (at (m .base) t) (w .0) object (w .1) k (rw (w .1 .rank) at lt))
 
 -- The same of two moments: whoever of lower base runs at the end of one way on from the release, and of another, is one task.
 -- Rules out: a low task that depends on what comes later. Leaves: that it holds an object (the promise itself).
-pub one-lower-task : (before : List Command) (c : Command) (to-i to-j : List Command) → let m = run fresh before in let now = next m c in let t = released m c in
+pub one-lower-task : (before : List Command) (c : Command) (to-i to-j : List Command)
+    → let m = run fresh before in let now = next m c in let t = released m c in
     t ≢ 0 → All (λ s. running s ≢ t) (moments now to-i) → All (λ s. running s ≢ t) (moments now to-j)
     → at (now .base) (running (run now to-i)) < at (now .base) t → at (now .base) (running (run now to-j)) < at (now .base) t
     → running (run now to-i) ≡ running (run now to-j)
@@ -209,7 +214,8 @@ one-lower-task before c to-i to-j n ki kj li lj = let w = release-promise before
 
 -- Idle, which holds nothing, runs at no such moment.
 -- Rules out: a released task that is put behind idle, or lost. Leaves: which of the others runs (the promise itself).
-pub idle-does-not-run : (before : List Command) (c : Command) (after : List Command) → let m = run fresh before in let now = next m c in let t = released m c in
+pub idle-does-not-run : (before : List Command) (c : Command) (after : List Command)
+    → let m = run fresh before in let now = next m c in let t = released m c in
     t ≢ 0 → All (λ s. running s ≢ t) (moments now after) → running (run now after) ≢ 0
 idle-does-not-run before c after n k e =
     let m = run fresh before in
@@ -217,5 +223,5 @@ idle-does-not-run before c after n k e =
     let s : Sound now = next-sound m (run-sound before fresh fresh-sound) c in
     let b : 1 ≤ at (now .base) (released m c) = released-based m (run-sound before fresh fresh-sound) (run-clear before fresh fresh-sound fresh-clear) c n in
     let w = release-promise before c n in
-    let i = w .2 after k (rw e (omega (arith, s .idle-base))) in
-    i .1 (sym (first-moment (λ x. at (x .held) (w .0) ≡ w .1) after now (i .2)) ∙ (ap (at (now .held)) (sym (i .0) ∙ e) ∙ s .idle-free))
+    let i = w .2 after k (rw e (omega (arith, s .idle-ready .idle-base))) in
+    i .1 (sym (first-moment (λ x. last-opened x (w .0) ≡ w .1) after now (i .2)) ∙ (ap (last-opened now) (sym (i .0) ∙ e) ∙ s .idle-ready .idle-free))

@@ -9,12 +9,13 @@ use mathlib.Core.Logic.{_≢_}
 use mathlib.Core.Bool.{Bool, true, false, cond, not, _&&_, _||_, true≢false}
 use mathlib.Core.List.{List, [], _∷_}
 use lib.Dec.{eqb, leb}
-use lib.ListN.{getD, set, length, replicate}
+use lib.ListN.{getD, length, replicate}
 use borrow.Author.Tests.{eqb-true, eq-eqb, eqb-false, ne-eqb, le-ltb, le-leb, leb-true}
-use Rattle.rules.specs.Line.{at, within, front, rest, first-alone, by-time, count, one-if, empty}
+use Rattle.rules.specs.Line.{at, within, front, behind-front, first-few, first-alone, by-time, count, one-if, empty}
 use Rattle.rules.specs.Machine.{Machine, Command, tasks, created, runner}
 use Rattle.rules.specs.Kinds.{kind}
-use Rattle.rules.specs.Table.{Out, same, take, yield, close, sleep, await, Rel, none, due, serve, Effect, nothing, creates, declares, begins, moves, first-due, effect, freed, freed-by, later, release, leave, carry}
+use Rattle.rules.specs.Table.{Out, same, take, yield, close, sleep, await, Rel, none, due, serve, Effect, nothing, creates, declares, begins, moves}
+use Rattle.rules.specs.Table.{first-due, effect, freed, freed-by, later, release, leave, carry}
 use Rattle.rules.specs.Refusals.{refusal}
 use Rattle.rules.specs.Sound.{standings, waits}
 use Rattle.rules.specs.Run.{next, released, answer, run, answers, is-due, ahead, wakes-left, Left, question}
@@ -60,7 +61,7 @@ module _ (m : Machine) (t r : ℕ) (d : DueAt m t r) where
   unfolding release
   release-stays none n = d
   release-stays due n = absurd (n refl)
-  release-stays (serve o) n = record { inside = d .inside; task = d .task; due = d .due }
+  release-stays (serve o k) n = record { inside = d .inside; task = d .task; due = d .due }
 
   leave-stays : Pairwise (λ e f. e .0 ≤ f .0) (m .delay) → (out : Out) → AllowedOut m out → DueAt (leave out m) t r
   unfolding leave
@@ -68,7 +69,9 @@ module _ (m : Machine) (t r : ℕ) (d : DueAt m t r) where
   leave-stays k (take o w) g = record { inside = d .inside; task = d .task; due = d .due }
   leave-stays k yield g = record { inside = d .inside; task = d .task; due = d .due }
   leave-stays k close g = record { inside = d .inside; task = d .task; due = d .due }
-  leave-stays k (sleep x) g = let w = place-later x (runner m) (m .delay) r k (d .inside) (omega (arith, d .due, g .ahead)) in record { inside = w .0; task = rw (w .1) (d .task); due = rw (w .1) (d .due) }
+  leave-stays k (sleep x) g =
+      let w = place-later x (runner m) (m .delay) r k (d .inside) (omega (arith, d .due, g .ahead)) in
+      record { inside = w .0; task = rw (w .1) (d .task); due = rw (w .1) (d .due) }
   leave-stays k (await o) g = record { inside = d .inside; task = d .task; due = d .due }
 
   later-stays : (n : ℕ) → DueAt (later m n) t r
@@ -80,19 +83,20 @@ module _ (m : Machine) (s : Sound m) (t r : ℕ) (d : DueAt m t r) where
   delayed = rw (d .task) at (task-at (m .delay) r (d .inside))
 
   pub not-idle : t ≢ 0
-  not-idle e = let z : 1 ≤ count 0 (tasks (m .delay)) = rw e at delayed in omega (arith, once m s 0, s .idle-there)
+  not-idle e = let z : 1 ≤ count 0 (tasks (m .delay)) = rw e at delayed in omega (arith, once m s 0, s .idle-ready .idle-there)
 
-  not-served : (o : ℕ) → front 0 (freed (serve o) m) ≢ t
-  not-served o e = go (getD (m .queue) o []) e (waits-fewer t (m .queue) o)
+  not-served : (o n : ℕ) → front 0 (freed (serve o n) m) ≢ t
+  not-served o n e = go n (getD (m .queue) o []) e (omega (arith, waits-fewer t n (m .queue) o))
     where
-      go : (q : List ℕ) → front 0 (first-alone q) ≡ t → count t (first-alone q) + waits t (set (m .queue) o (rest (getD (m .queue) o []))) ≡ waits t (m .queue) → ⊥
-      go [] e k = not-idle (sym e)
-      go (x ∷ q) e k = let z : one-if (eqb t x) ≡ 1 = rw (eq-eqb t x (sym e)) in omega (arith, delayed, once m s t)
+      go : (n : ℕ) (q : List ℕ) → front 0 (first-few n q) ≡ t → count t (first-few n q) ≤ waits t (m .queue) → ⊥
+      go zero q e k = not-idle (sym e)
+      go (suc n) [] e k = not-idle (sym e)
+      go (suc n) (x ∷ q) e k = let z : one-if (eqb t x) ≡ 1 = rw (eq-eqb t x (sym e)) in omega (arith, delayed, once m s t)
 
   not-freed : (rel : Rel) → (rel ≡ due → ⊥) → front 0 (freed rel m) ≢ t
   not-freed none n = λ e. not-idle (sym e)
   not-freed due n = absurd (n refl)
-  not-freed (serve o) n = not-served o
+  not-freed (serve o k) n = not-served o k
 
   stays : (e : Effect) → Allowed m e → (rel-of e ≡ due → ⊥) → DueAt (carry m e) t r × (freed-by e m ≢ t)
   unfolding carry
@@ -102,7 +106,7 @@ module _ (m : Machine) (s : Sound m) (t r : ℕ) (d : DueAt m t r) where
   stays begins g n = (record { inside = d .inside; task = d .task; due = d .due }, λ e. not-idle (sym e))
   stays (moves out rel k) g n = (
     later-stays (leave out (release rel m)) t r
-        (leave-stays (release rel m) t r (release-stays m t r d rel n) (release-sound m s (g .on) rel .times-rise) out (g .leaves)) k,
+        (leave-stays (release rel m) t r (release-stays m t r d rel n) (release-sound m s (g .on) rel .in-order .times-rise) out (g .leaves)) k,
     not-freed rel n,
   )
 
@@ -119,7 +123,8 @@ abbrev Turn : Machine → Command → ℕ → ℕ → Type 0
 Turn m c t zero = released m c ≡ t
 Turn m c t (suc r) = DueAt (next m c) t r × (released m c ≢ t)
 
-first-is-due : (l : List (ℕ × ℕ)) (now r : ℕ) → Pairwise (λ e f. e .0 ≤ f .0) l → r < length l → getD l r (0, 0) .0 ≤ now → not (empty l) && leb (front (0, 0) l .0) now ≡ true
+first-is-due : (l : List (ℕ × ℕ)) (now r : ℕ) → Pairwise (λ e f. e .0 ≤ f .0) l → r < length l → getD l r (0, 0) .0 ≤ now
+    → not (empty l) && leb (front (0, 0) l .0) now ≡ true
 first-is-due [] now r k h d = absurd (omega arith)
 first-is-due (e ∷ l) now zero k h d = le-leb (e .0) now d
 first-is-due (e ∷ l) now (suc r) k h d = le-leb (e .0) now (let z : e .0 ≤ getD l r (0, 0) .0 = time-above l (e .0) r (k .0) (omega arith) in omega arith)
@@ -128,7 +133,7 @@ first-task : (l : List (ℕ × ℕ)) → front 0 (first-alone (tasks l)) ≡ get
 first-task [] = refl
 first-task (e ∷ l) = refl
 
-behind-first : (l : List (ℕ × ℕ)) (r : ℕ) → suc r < length l → (r < length (rest l)) × (getD (rest l) r (0, 0) ≡ getD l (suc r) (0, 0))
+behind-first : (l : List (ℕ × ℕ)) (r : ℕ) → suc r < length l → (r < length (behind-front l)) × (getD (behind-front l) r (0, 0) ≡ getD l (suc r) (0, 0))
 behind-first [] r h = absurd (omega arith)
 behind-first (e ∷ l) r h = (omega arith, refl)
 
@@ -158,7 +163,8 @@ module _ (m : Machine) (s : Sound m) (t : ℕ) where
       go : Step m c → Turn m c t r
       go (kept e f w) = absurd (true≢false (sym woke ∙ w))
       go (carried e f w g) =
-          let q : effect m c ≡ moves same due 0 = wake-row m c (eqb-true _ _ (sym w ∙ woke)) (first-is-due (m .delay) (m .clock) r (s .times-rise) (d .inside) (d .due)) in
+          let q : effect m c ≡ moves same due 0 =
+          wake-row m c (eqb-true _ _ (sym w ∙ woke)) (first-is-due (m .delay) (m .clock) r (s .in-order .times-rise) (d .inside) (d .due)) in
           in-turn r d c (e ∙ ap (carry m) q) (f ∙ ap (λ (x : Effect). freed-by x m) q)
 
 -- So over any run from a sound state: as long as no more than r accepted Wakes have come, t stands at index r less their count, and no
@@ -170,7 +176,8 @@ keeps-its-turn [] m s t r d k = (rw (sub-zero r) d, tt)
 keeps-its-turn (c ∷ cs) m s t r d k = go (wakes m c) refl r d k (λ r. keeps-its-turn cs (next m c) (next-sound m s c) t r)
   where
     go : (b : Bool) → wakes m c ≡ b → (r : ℕ) → DueAt m t r → one-if b + wakes-in (next m c) cs ≤ r
-        → ((r : ℕ) → DueAt (next m c) t r → wakes-in (next m c) cs ≤ r → DueAt (run (next m c) cs) t (r - wakes-in (next m c) cs) × All (λ a. a .released ≢ t) (answers (next m c) cs))
+        → ((r : ℕ) → DueAt (next m c) t r → wakes-in (next m c) cs ≤ r
+        → DueAt (run (next m c) cs) t (r - wakes-in (next m c) cs) × All (λ a. a .released ≢ t) (answers (next m c) cs))
         → DueAt (run (next m c) cs) t (r - (one-if b + wakes-in (next m c) cs)) × ((released m c ≢ t) × All (λ a. a .released ≢ t) (answers (next m c) cs))
     go false e r d k ih =
         let w = unless-wake m s t r d c e in
@@ -194,7 +201,8 @@ module _ (now t : ℕ) where
       go : (b : Bool) → eqb (f .1) t ≡ b → (q : Bool) → leb (f .0) now ≡ q
           → (is-due now t l ≡ true → (ahead t l < length l) × (getD l (ahead t l) (0, 0) .1 ≡ t) × (getD l (ahead t l) (0, 0) .0 ≤ now))
           → b && q || is-due now t l ≡ true
-          → (cond b 0 (suc (ahead t l)) < suc (length l)) × (getD (f ∷ l) (cond b 0 (suc (ahead t l))) (0, 0) .1 ≡ t) × (getD (f ∷ l) (cond b 0 (suc (ahead t l))) (0, 0) .0 ≤ now)
+          → let r = cond b 0 (suc (ahead t l)) in
+          (r < suc (length l)) × (getD (f ∷ l) r (0, 0) .1 ≡ t) × (getD (f ∷ l) r (0, 0) .0 ≤ now)
       go true x true y ih e = (omega arith, eqb-true _ _ x, leb-true _ _ y)
       go true x false y ih e =
           let w = ih e in
@@ -203,7 +211,8 @@ module _ (now t : ℕ) where
           absurd (omega arith)
       go false x q y ih e = let w = ih e in (omega (arith, w .0), w .1, w .2)
 
-  counted : (l : List (ℕ × ℕ)) (r : ℕ) → count t (tasks l) ≤ 1 → r < length l → getD l r (0, 0) .1 ≡ t → getD l r (0, 0) .0 ≤ now → (is-due now t l ≡ true) × (ahead t l ≡ r)
+  counted : (l : List (ℕ × ℕ)) (r : ℕ) → count t (tasks l) ≤ 1 → r < length l → getD l r (0, 0) .1 ≡ t → getD l r (0, 0) .0 ≤ now
+      → (is-due now t l ≡ true) × (ahead t l ≡ r)
   counted [] r k h e d = absurd (omega arith)
   counted (f ∷ l) zero k h e d = rw (eq-eqb (f .1) t e, le-leb (f .0) now d) (refl, refl)
   counted (f ∷ l) (suc r) k h e d =
@@ -231,7 +240,10 @@ pub question-left : (m : Machine) → Sound m → (t r : ℕ) → question m t .
 unfolding question
 question-left m s t r e = go (within 1 31 t) (created m t) e
   where
-    go : (a b : Bool) → cond {A = Left} (not a) (record { code = 4; left = 0 }) (cond (not b) (record { code = 6; left = 0 }) (record { code = 0; left = wakes-left m t })) .left ≡ suc r → DueAt m t r
+    go : (a b : Bool)
+        → cond {A = Left} (not a) (record { code = 4; left = 0 })
+        (cond (not b) (record { code = 6; left = 0 }) (record { code = 0; left = wakes-left m t })) .left ≡ suc r
+        → DueAt m t r
     go true true e = left-is-due m s t r e
     go true false e = absurd (omega arith)
     go false b e = absurd (omega arith)
@@ -242,7 +254,8 @@ left-question m s t r d =
     let n = not-idle m s t r d in
     let h : 1 ≤ standings m t = (let z = delayed m s t r d in omega arith) in
     let k : t < 32 = known m s t h in
-    rw (le-leb 1 t (omega arith), le-leb t 31 (omega arith), ne-eqb t 0 n, ne-eqb (at (m .base) t) 0 (λ e. omega (arith, based m s t h n))) (due-is-left m s t r d)
+    rw (le-leb 1 t (omega arith), le-leb t 31 (omega arith), ne-eqb t 0 n, ne-eqb (at (m .base) t) 0 (λ e. omega (arith, based m s t h n)))
+    (due-is-left m s t r d)
 
 -- And from outside: a Wake releases only a due task, the first; so the answer can be read off a row of Wakes.
 abbrev pub a-wake : Command
@@ -250,7 +263,8 @@ a-wake = cmd 5 0 0 0
 
 -- what a Wake finds in the delay line
 Found : Machine → List (ℕ × ℕ) → Type 0
-Found m l = (front 0 (first-alone (tasks l)) ≢ 0 → not (empty l) && leb (front (0, 0) l .0) (m .clock) ≡ true → (0 < length l) × (getD l 0 (0, 0) .0 ≤ m .clock))
+Found m l =
+    (front 0 (first-alone (tasks l)) ≢ 0 → not (empty l) && leb (front (0, 0) l .0) (m .clock) ≡ true → (0 < length l) × (getD l 0 (0, 0) .0 ≤ m .clock))
 
 finds : (m : Machine) (l : List (ℕ × ℕ)) → Found m l
 unfolding Found
@@ -285,15 +299,19 @@ due-before : (m : Machine) → Sound m → m .started ≡ true → (t r : ℕ) �
 unfolding carry leave release
 due-before m s on t r d = go (first-due m) refl (subst (λ (x : Machine). DueAt x t r) (wake-next m on) d)
   where
-    longer : (l : List (ℕ × ℕ)) → r < length (rest l) → suc r < length l
+    longer : (l : List (ℕ × ℕ)) → r < length (behind-front l) → suc r < length l
     longer [] h = absurd (omega arith)
     longer (f ∷ l) h = omega arith
 
     go : (b : Bool) → first-due m ≡ b → DueAt (carry m (moves same (cond b due none) 0)) t r → DueAt m t (suc r)
     go true e d =
         let w = behind-first (m .delay) r (longer (m .delay) (d .inside)) in
-        record { inside = longer (m .delay) (d .inside); task = rw (w .1) at (d .task); due = (let z : getD (rest (m .delay)) r (0, 0) .0 ≤ m .clock = omega (arith, d .due) in rw (w .1) at z) }
-    go false e d = absurd (true≢false (sym (first-is-due (m .delay) (m .clock) r (s .times-rise) (d .inside) (omega (arith, d .due))) ∙ e))
+        record {
+          inside = longer (m .delay) (d .inside);
+          task = rw (w .1) at (d .task);
+          due = (let z : getD (behind-front (m .delay)) r (0, 0) .0 ≤ m .clock = omega (arith, d .due) in rw (w .1) at z);
+        }
+    go false e d = absurd (true≢false (sym (first-is-due (m .delay) (m .clock) r (s .in-order .times-rise) (d .inside) (omega (arith, d .due))) ∙ e))
 
 wake-started : (m : Machine) → m .started ≡ true → next m a-wake .started ≡ true
 unfolding carry

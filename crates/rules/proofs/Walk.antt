@@ -23,7 +23,8 @@ line n op code running released clock = record { n = n; op = op; code = code; ru
 abbrev pub lines : ℕ → Machine → List Command → List Printed
 lines n m [] = []
 lines n m (c ∷ cs) =
-    record { n = n; op = c .op; code = answer m c .code; running = answer m c .running; released = answer m c .released; clock = next m c .clock } ∷ lines (suc n) (next m c) cs
+    let a = answer m c in
+    record { n = n; op = c .op; code = a .code; running = a .running; released = a .released; clock = next m c .clock } ∷ lines (suc n) (next m c) cs
 
 -- create 1 3, create 2 5, create 3 3, object 1 4, start
 abbrev pub set-up : List Command
@@ -32,7 +33,9 @@ set-up = cmd 1 1 3 0 ∷ cmd 1 2 5 0 ∷ cmd 1 3 3 0 ∷ cmd 2 1 4 0 ∷ cmd 3 0
 -- and delay 10, open 1, advance 10, wake, open 1, delay 20, closep 1 1, entry 1 0, entry 1 0, open 1, closep 1 1
 abbrev pub walk : List Command
 walk =
-    set-up ++ (cmd 4 0 0 10 ∷ cmd 7 1 0 0 ∷ cmd 6 0 0 10 ∷ cmd 5 0 0 0 ∷ cmd 7 1 0 0 ∷ cmd 4 0 0 20 ∷ cmd 8 1 1 0 ∷ cmd 10 1 0 0 ∷ cmd 10 1 0 0 ∷ cmd 7 1 0 0 ∷ cmd 8 1 1 0 ∷ [])
+    set-up ++
+    (cmd 4 0 0 10 ∷ cmd 7 1 0 0 ∷ cmd 6 0 0 10 ∷ cmd 5 0 0 0 ∷ cmd 7 1 0 0 ∷ cmd 4 0 0 20 ∷
+    cmd 8 1 1 0 ∷ cmd 10 1 0 0 ∷ cmd 10 1 0 0 ∷ cmd 7 1 0 0 ∷ cmd 8 1 1 0 ∷ [])
 
 -- The walk as the paper prints it. Rules out a machine that refuses all, does nothing, or moves one of these tasks otherwise.
 pub walk-lines : lines 1 fresh walk ≡

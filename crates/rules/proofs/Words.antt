@@ -7,7 +7,7 @@ use mathlib.Core.List.{List, [], _∷_}
 use lib.Dec.{eqb}
 use lib.ListN.{length, getD}
 use Rattle.rules.specs.Line.{at, one-if}
-use Rattle.rules.specs.Machine.{Machine, Command, active}
+use Rattle.rules.specs.Machine.{Machine, Command, last-opened, active}
 use Rattle.rules.specs.Run.{accepts, next}
 
 module _ {A : Type 0} where
@@ -20,6 +20,17 @@ module _ {A : Type 0} where
   abbrev pub Pairwise : (A → A → Type 0) → List A → Type 0
   Pairwise R [] = Unit {0}
   Pairwise R (x ∷ l) = All (R x) l × Pairwise R l
+
+-- the task holds nothing; it holds an object
+abbrev pub Free : Machine → ℕ → Type 0
+Free m t = last-opened m t ≡ 0
+
+abbrev pub Holding : Machine → ℕ → Type 0
+Holding m t = last-opened m t ≢ 0
+
+-- the order of the ready line: b, behind a, has an active priority of at most a's
+abbrev pub Ordered : Machine → ℕ → ℕ → Type 0
+Ordered m a b = active m b ≤ active m a
 
 -- the command with these numbers
 abbrev pub cmd : ℕ → ℕ → ℕ → ℕ → Command
@@ -47,4 +58,4 @@ pub record DueAt (m : Machine) (t r : ℕ) : Type 0 where
 -- the way ahead of a holder is clear of tasks that its ceiling should have barred: where b holds an object, every task ahead of b in the
 -- ready line has a base above b's active priority, which is the object's ceiling
 unfoldable pub Clear : Machine → Type 0
-Clear m = Pairwise (λ a b. at (m .held) b ≢ 0 → active m b < at (m .base) a) (m .ready)
+Clear m = Pairwise (λ a b. Holding m b → active m b < at (m .base) a) (m .ready)

@@ -4,7 +4,8 @@ use mathlib.Core.Bool.{Bool, true, false}
 use mathlib.Core.List.{List, [], _∷_}
 use lib.ListN.{getD, length}
 use Rattle.rules.specs.declared.Kind.{Kind}
-use Rattle.rules.specs.declared.Kind.the-variants.{NoKind, Creating, Declaring, Starting, Delaying, Waking, Advancing, Opening, Entering, Ending}
+use Rattle.rules.specs.declared.Kind.the-variants.{NoKind, Creating, Declaring, Starting, Delaying}
+use Rattle.rules.specs.declared.Kind.the-variants.{Waking, Advancing, Opening, Entering, Ending}
 use Rattle.rules.specs.Machine.{Command, for-open, for-entry}
 
 -- the end of a body that is held in that way

@@ -11,18 +11,28 @@ module _ {A : Type 0} where
   place stop x [] = x ∷ []
   place stop x (y ∷ l) = cond (stop y) (x ∷ y ∷ l) (y ∷ place stop x l)
 
-  -- the first entry, or d where there is none; the line behind it; the first as a line of its own
+  -- the first entry, or d where there is none
   abbrev pub front : A → List A → A
   front d [] = d
   front d (x ∷ l) = x
 
-  abbrev pub rest : List A → List A
-  rest [] = []
-  rest (x ∷ l) = l
+  -- the first n entries, or all where there are fewer; the line behind them
+  abbrev pub first-few : ℕ → List A → List A
+  first-few zero l = []
+  first-few (suc n) [] = []
+  first-few (suc n) (x ∷ l) = x ∷ first-few n l
 
+  abbrev pub behind-few : ℕ → List A → List A
+  behind-few zero l = l
+  behind-few (suc n) [] = []
+  behind-few (suc n) (x ∷ l) = behind-few n l
+
+  -- the first as a line of its own; the line behind it
   abbrev pub first-alone : List A → List A
-  first-alone [] = []
-  first-alone (x ∷ l) = x ∷ []
+  first-alone l = first-few 1 l
+
+  abbrev pub behind-front : List A → List A
+  behind-front l = behind-few 1 l
 
   abbrev pub empty : List A → Bool
   empty [] = true
@@ -38,6 +48,11 @@ module _ {A : Type 0} where
   neighbours f [] = true
   neighbours f (x ∷ []) = true
   neighbours f (x ∷ (y ∷ l)) = f x y && neighbours f (y ∷ l)
+
+-- each of the tests is passed
+abbrev pub all-of : List Bool → Bool
+all-of [] = true
+all-of (b ∷ l) = b && all-of l
 
 -- the cell i of a table, 0 past its end
 abbrev pub at : List ℕ → ℕ → ℕ
@@ -65,7 +80,8 @@ abbrev pub among : List ℕ → ℕ → Bool
 among [] n = false
 among (x ∷ l) n = eqb n x || among l n
 
--- "Placed at the tail of p" means after every task with active at least p; in an ordered line, that is before the first below p.
+-- "Placed at the tail of p" means after every task with active at least p; in an ordered line, that is before the
+-- first below p.
 abbrev pub at-tail : (ℕ → ℕ) → ℕ → ℕ → List ℕ → List ℕ
 at-tail active p t l = place (λ y. ltb (active y) p) t l
 
@@ -73,6 +89,7 @@ at-tail active p t l = place (λ y. ltb (active y) p) t l
 abbrev pub at-head : (ℕ → ℕ) → ℕ → ℕ → List ℕ → List ℕ
 at-head active p t l = at-tail active (suc p) t l
 
--- The delay line, of entries (time, task), is ordered by time, equal times by order of entry. (proofs/Placing has all three as theorems.)
+-- The delay line, of entries (time, task), is ordered by time, equal times by order of entry. (proofs/Placing has all
+-- three as theorems.)
 abbrev pub by-time : ℕ × ℕ → List (ℕ × ℕ) → List (ℕ × ℕ)
 by-time e l = place (λ f. ltb (e .0) (f .0)) e l

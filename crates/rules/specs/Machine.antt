@@ -4,15 +4,36 @@ use mathlib.Core.Bool.{Bool, false, cond, not, _||_}
 use mathlib.Core.List.{List, [], _∷_}
 use lib.Dec.{eqb}
 use lib.ListN.{replicate}
-use Rattle.rules.specs.Line.{at, front}
+use Rattle.rules.specs.Line.{at, count, every, front}
 
--- Tables are indexed by the task 0..31 or by the object 0..7. Task 0 is idle; object 0 is the null object, which is never declared.
+-- The limits, each said once: the tasks are 0..31 and the objects 0..7, bases and ceilings run to 15 and barriers to
+-- 1, and one task at most waits on an object.
+abbrev pub task-count : ℕ
+task-count = 32
+
+abbrev pub object-count : ℕ
+object-count = 8
+
+abbrev pub top-base : ℕ
+top-base = 15
+
+abbrev pub top-ceiling : ℕ
+top-ceiling = 15
+
+abbrev pub top-barrier : ℕ
+top-barrier = 1
+
+abbrev pub most-waiters : ℕ
+most-waiters = 1
+
+-- Tables are indexed by the task or by the object. Task 0 is idle; object 0 is the null object, which is never
+-- declared.
 pub record Machine : Type 0 where
   pub base : List ℕ  -- each task's base priority: 0 for idle, and for a task that is not created
   pub ceiling : List ℕ  -- each object's ceiling: 0 for one that is not declared
-  pub held : List ℕ  -- the object that each task holds: 0 for none
-  pub way : List ℕ  -- how it holds it: for-open, for-entry, or 0 for not at all
-  pub queue : List (List ℕ)  -- the tasks that wait on each object: at most one in a sound state, but a list, for longer queues are to come
+  pub held : List ℕ  -- the object that each task holds: 0 for none (asked by the names below alone)
+  pub way : List ℕ  -- how it holds it: for-open, for-entry, or 0 for not at all (the same)
+  pub queue : List (List ℕ)  -- the tasks that wait on each object, the first in first: at most one in a sound state
   pub ready : List ℕ  -- the ready tasks, highest active priority first
   pub delay : List (ℕ × ℕ)  -- the delayed tasks, each with its time before it
   pub clock : ℕ
@@ -27,7 +48,17 @@ for-entry = 2
 
 -- The fresh machine has task 0 alone, no object, clock 0, and is not started.
 abbrev pub fresh : Machine
-fresh = record { base = replicate 32 0; ceiling = replicate 8 0; held = replicate 32 0; way = replicate 32 0; queue = replicate 8 []; ready = 0 ∷ []; delay = []; clock = 0; started = false }
+fresh = record {
+  base = replicate task-count 0;
+  ceiling = replicate object-count 0;
+  held = replicate task-count 0;
+  way = replicate task-count 0;
+  queue = replicate object-count [];
+  ready = 0 ∷ [];
+  delay = [];
+  clock = 0;
+  started = false;
+}
 
 -- Task 0 is idle, always there.
 abbrev pub created : Machine → ℕ → Bool
@@ -36,13 +67,27 @@ created m t = eqb t 0 || not (eqb (at (m .base) t) 0)
 abbrev pub declared : Machine → ℕ → Bool
 declared m o = not (eqb (at (m .ceiling) o) 0)
 
--- holds nothing
+-- What a task holds. All else asks by these names, and not by the tables: the object that it opened last, 0 for none;
+-- the way in which it holds it, 0 for none; that it holds nothing; how many tasks hold an object; that nobody holds
+-- any.
+abbrev pub last-opened : Machine → ℕ → ℕ
+last-opened m t = at (m .held) t
+
+abbrev pub way-held : Machine → ℕ → ℕ
+way-held m t = at (m .way) t
+
 abbrev pub empty-handed : Machine → ℕ → Bool
-empty-handed m t = eqb (at (m .held) t) 0
+empty-handed m t = eqb (last-opened m t) 0
+
+abbrev pub holders : Machine → ℕ → ℕ
+holders m o = count o (m .held)
+
+abbrev pub nobody-holds : Machine → Bool
+nobody-holds m = every (λ o. eqb o 0) (m .held)
 
 -- Active priority is the ceiling of the object held, else the base.
 abbrev pub active : Machine → ℕ → ℕ
-active m t = cond (empty-handed m t) (at (m .base) t) (at (m .ceiling) (at (m .held) t))
+active m t = cond (empty-handed m t) (at (m .base) t) (at (m .ceiling) (last-opened m t))
 
 -- the tasks of the delay line
 abbrev pub tasks : List (ℕ × ℕ) → List ℕ

@@ -4,8 +4,10 @@ use mathlib.Core.Bool.{Bool, cond, not, _&&_, _||_}
 use mathlib.Core.List.{List, [], _∷_}
 use lib.Dec.{eqb, leb, ltb}
 use lib.ListN.{getD, length}
-use Rattle.rules.specs.Line.{at, count, empty, every, neighbours, all-below, among, one-if}
-use Rattle.rules.specs.Machine.{Machine, active, tasks, created, declared, empty-handed, for-open, for-entry}
+use Rattle.rules.specs.Line.{at, count, empty, every, neighbours, all-of, all-below, among, one-if}
+use Rattle.rules.specs.Machine.{Machine, active, tasks, created, declared}
+use Rattle.rules.specs.Machine.{task-count, object-count, top-base, top-ceiling, most-waiters}
+use Rattle.rules.specs.Machine.{last-opened, way-held, empty-handed, holders, nobody-holds, for-open, for-entry}
 
 -- how often t waits
 abbrev pub waits : ℕ → List (List ℕ) → ℕ
@@ -18,7 +20,13 @@ standings m t = count t (m .ready) + count t (tasks (m .delay)) + waits t (m .qu
 
 -- tasks 0..31, objects 0..7; the clock and delay times run over 0..2^64-1
 abbrev pub tables-sized : Machine → Bool
-tables-sized m = eqb (length (m .base)) 32 && eqb (length (m .held)) 32 && eqb (length (m .way)) 32 && eqb (length (m .ceiling)) 8 && eqb (length (m .queue)) 8
+tables-sized m =
+    all-of
+    (eqb (length (m .base)) task-count ∷
+    eqb (length (m .held)) task-count ∷
+    eqb (length (m .way)) task-count ∷
+    eqb (length (m .ceiling)) object-count ∷
+    eqb (length (m .queue)) object-count ∷ [])
 
 abbrev pub in-time : Machine → Bool
 in-time m = ltb (m .clock) (2 ^ 64) && every (λ e. ltb (e .0) (2 ^ 64)) (m .delay)
@@ -29,31 +37,41 @@ idle-ready m = eqb (at (m .base) 0) 0 && leb 1 (count 0 (m .ready)) && empty-han
 
 -- numbers of tasks
 abbrev pub tasks-only : List ℕ → Bool
-tasks-only l = every (λ t. ltb t 32) l
+tasks-only l = every (λ t. ltb t task-count) l
 
 -- each created task stands in exactly one of ready, delayed, waiting, and once there; no other task stands anywhere
 abbrev pub stand-once : Machine → Bool
-stand-once m = all-below 32 (λ t. eqb (standings m t) (one-if (created m t))) && tasks-only (m .ready) && tasks-only (tasks (m .delay)) && every tasks-only (m .queue)
+stand-once m =
+    all-of
+    (all-below task-count (λ t. eqb (standings m t) (one-if (created m t))) ∷
+    tasks-only (m .ready) ∷
+    tasks-only (tasks (m .delay)) ∷
+    every tasks-only (m .queue) ∷ [])
 
 -- both lines are in order
 abbrev pub in-order : Machine → Bool
-in-order m = neighbours (λ a b. leb (active m b) (active m a)) (m .ready) && neighbours (λ e f. leb (e .0) (f .0)) (m .delay)
+in-order m =
+    neighbours (λ a b. leb (active m b) (active m a)) (m .ready) && neighbours (λ e f. leb (e .0) (f .0)) (m .delay)
 
--- bases and ceilings are in range: 1..15, or 0, which is idle's base and stands for what is not set up; object 0 never is
+-- bases and ceilings are in range: 1..15, or 0, which is idle's base and stands for what is not set up; object 0 never
+-- is
 abbrev pub in-range : Machine → Bool
-in-range m = every (λ p. leb p 15) (m .base) && every (λ p. leb p 15) (m .ceiling) && not (declared m 0)
+in-range m = every (λ p. leb p top-base) (m .base) && every (λ p. leb p top-ceiling) (m .ceiling) && not (declared m 0)
 
 -- a task holds at most one object (its table has one place for it), and that in one of the two ways
 abbrev pub hold-one : Machine → Bool
-hold-one m = all-below 32 (λ t. cond (empty-handed m t) (eqb (at (m .way) t) 0) (among (for-open ∷ for-entry ∷ []) (at (m .way) t)))
+hold-one m =
+    all-below task-count (λ t.
+    cond (empty-handed m t) (eqb (way-held m t) 0) (among (for-open ∷ for-entry ∷ []) (way-held m t)))
 
 -- each object is held by at most one task and waited on by at most one
 abbrev pub one-each : Machine → Bool
-one-each m = all-below 8 (λ o. eqb o 0 || leb (count o (m .held)) 1) && every (λ q. leb (length q) 1) (m .queue)
+one-each m =
+    all-below object-count (λ o. eqb o 0 || leb (holders m o) 1) && every (λ q. leb (length q) most-waiters) (m .queue)
 
 -- a holder is ready
 abbrev pub holders-ready : Machine → Bool
-holders-ready m = all-below 32 (λ t. empty-handed m t || leb 1 (count t (m .ready)))
+holders-ready m = all-below task-count (λ t. empty-handed m t || leb 1 (count t (m .ready)))
 
 -- the task has base at most the ceiling of the object, which is declared
 abbrev pub admits : Machine → ℕ → ℕ → Bool
@@ -61,12 +79,29 @@ admits m o t = declared m o && leb (at (m .base) t) (at (m .ceiling) o)
 
 -- holder and waiter have base at most the ceiling of a declared object (so nobody waits on object 0)
 abbrev pub all-admitted : Machine → Bool
-all-admitted m = all-below 32 (λ t. empty-handed m t || admits m (at (m .held) t) t) && all-below 8 (λ o. every (admits m o) (getD (m .queue) o []))
+all-admitted m =
+    all-below task-count (λ t. empty-handed m t || admits m (last-opened m t) t) &&
+    all-below object-count (λ o. every (admits m o) (getD (m .queue) o []))
 
 -- before Start the clock is 0 and nothing is delayed, waiting or held
 abbrev pub quiet-before-start : Machine → Bool
-quiet-before-start m = m .started || eqb (m .clock) 0 && empty (m .delay) && every (λ q. empty q) (m .queue) && every (λ o. eqb o 0) (m .held)
+quiet-before-start m =
+    m .started || all-of (eqb (m .clock) 0 ∷ empty (m .delay) ∷ every (λ q. empty q) (m .queue) ∷ nobody-holds m ∷ [])
+
+-- Document 01's conditions, in its order: a state is sound if it meets each.
+abbrev pub conditions : List (Machine → Bool)
+conditions =
+    tables-sized ∷
+    in-time ∷
+    idle-ready ∷
+    stand-once ∷
+    in-order ∷
+    in-range ∷
+    hold-one ∷
+    one-each ∷
+    holders-ready ∷
+    all-admitted ∷
+    quiet-before-start ∷ []
 
 unfoldable pub sound : Machine → Bool
-sound m =
-    tables-sized m && in-time m && idle-ready m && stand-once m && in-order m && in-range m && hold-one m && one-each m && holders-ready m && all-admitted m && quiet-before-start m
+sound m = every (λ meets. meets m) conditions

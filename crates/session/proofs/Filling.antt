@@ -9,10 +9,8 @@ use mathlib.Core.List.{List, [], _++_}
 use borrow.Author.Tests.{le-leb}
 use lib.ListN.{length, length-append}
 use lib.Seq.{sets, length-sets}
-use Rattle.decimal.specs.Buffer.{contents-after, place-after}
-use Rattle.decimal.proofs.Stores.{sets-append}
-use Rattle.session.specs.Walk.{In-front}
-use Rattle.session.proofs.Front.{in-front}
+use Rattle.decimal.specs.Buffer.{contents-after, place-after, In-front}
+use Rattle.decimal.proofs.Stores.{sets-append, in-front}
 
 -- `room` bytes for each of the lines that may still come
 module _ (room : ℕ) (out₀ whole : List ℕ) where

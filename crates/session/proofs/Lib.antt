@@ -1,11 +1,5 @@
-pub mod Front
-pub mod Telling
+pub mod Ends
+pub mod CarryingOut
 pub mod Filling
-pub mod Feeding
-pub mod Drawing
-pub mod Theorems
-pub mod DrawWhole
-pub mod LongFirst
-pub mod Profiles
-pub mod Accepted
+pub mod Cuts
 pub mod Single

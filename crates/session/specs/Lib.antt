@@ -1,3 +1,1 @@
-pub mod Told
-pub mod Walk
-pub mod Draw
+pub mod CarriedOut

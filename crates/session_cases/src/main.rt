@@ -17,7 +17,7 @@ fn one_walk(tens: u8, ones: u8) -> bool {
     if fd < 0 {
         return false;
     }
-    programs::walk::run(fd);
+    programs_walk::run(fd);
     libc::close(fd);
     true
 }
@@ -27,7 +27,7 @@ fn one_draw(tens: u8, ones: u8) -> bool {
     if fd < 0 {
         return false;
     }
-    programs::draw::run(fd);
+    programs_draw::run(fd);
     libc::close(fd);
     true
 }

@@ -35,11 +35,13 @@ one-of-four s at = go (stands s at)
     go (no-seed a l) = seventeen
 
 -- The part is of the tape: so many bytes from its start on, and the tape has them.
-pub part-of-tape : (s : List ℕ) (at : ℕ) → (partAt s at ≡ take (length (partAt s at)) (drop (startAt s at) s)) × (startAt s at + length (partAt s at) ≤ length s)
+pub part-of-tape : (s : List ℕ) (at : ℕ) → (partAt s at ≡ take (length (partAt s at)) (drop (startAt s at) s))
+    × (startAt s at + length (partAt s at) ≤ length s)
 unfolding partAt startAt
 part-of-tape s at = go (stands s at)
   where
-    go : {x : Read} → Stands s at x → (take (sizeOf x) (drop at s) ≡ take (length (take (sizeOf x) (drop at s))) (drop (startOf at x) s)) × (startOf at x + length (take (sizeOf x) (drop at s)) ≤ length s)
+    go : {x : Read} → Stands s at x → (take (sizeOf x) (drop at s) ≡ take (length (take (sizeOf x) (drop at s))) (drop (startOf at x) s))
+        × (startOf at x + length (take (sizeOf x) (drop at s)) ≤ length s)
     go (found w l f) = let n : length (take 16 (drop at s)) ≡ 16 = length-take-le 16 (drop at s) (omega (arith, length-drop at s)) in (rw n, rw n l)
     go (end w l f) = (refl, omega arith)
     go no-record = (refl, omega arith)

@@ -28,7 +28,8 @@ pub rest-long : (s : List ℕ) (at : ℕ) → at + 16 ≤ length s → 16 ≤ le
 rest-long s at h = let e : length (drop at s) ≡ length s - at = length-drop at s in rw (rest-all s at, e) (omega arith)
 
 -- the part is back, with p in front of what it held
-pub put-back : (s p last : List ℕ) (at : ℕ) → last ≡ p ++ drop 16 (take (length s - at) (drop at s)) → putMid at (length s - at) s last ≡ take at s ++ (p ++ drop 16 (drop at s))
+pub put-back : (s p last : List ℕ) (at : ℕ) → last ≡ p ++ drop 16 (take (length s - at) (drop at s)) → putMid at (length s - at) s last ≡ take at s
+    ++ (p ++ drop 16 (drop at s))
 put-back s p last at e =
     ap (λ (x : List ℕ). take at s ++ (last ++ x)) (drop-of-length-le (drop at s) {i = length s - at} (le-of-eq (length-drop at s)))
     ∙ ap (λ (x : List ℕ). take at s ++ x) (append-nil last ∙ e ∙ ap (λ (x : List ℕ). p ++ drop 16 x) (rest-all s at))

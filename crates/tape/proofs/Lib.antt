@@ -4,5 +4,4 @@ pub mod Reading
 pub mod RoundTrip
 pub mod Runs
 pub mod Answers
-pub mod Readers
 pub mod Single

@@ -77,7 +77,8 @@ pub sixteen : (s : List ℕ) (at : ℕ) → take (at + 16 - at) (drop at s) ≡ 
 sixteen s at = let e : at + 16 - at ≡ 16 = omega arith in ap (λ (n : ℕ). take n (drop at s)) e
 
 -- the number, by what the code's four calls ensure (a `cc` over all that is known took three seconds)
-pub number-so : {c f : ℕ} {t : Bool} {r : Record} (at : ℕ) (p : List ℕ) → c ≡ cond t f 15 → t ≡ marked p → f ≡ faultOf at r → r ≡ recordOf p → c ≡ bytesFault at p
+pub number-so : {c f : ℕ} {t : Bool} {r : Record} (at : ℕ) (p : List ℕ) → c ≡ cond t f 15 → t ≡ marked p → f ≡ faultOf at r → r ≡ recordOf p → c
+    ≡ bytesFault at p
 number-so at p e m f r = rw (e, m, f, r)
 
 module _ (at : ℕ) (p : List ℕ) (c : ℕ) (e : c ≡ bytesFault at p) where

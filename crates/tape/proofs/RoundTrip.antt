@@ -49,7 +49,8 @@ found-there p q at r n w f small =
     let s : List ℕ = p ++ (bytesOf r ++ q) in
     let l : at + 16 ≤ length s = omega (arith, length-append p (bytesOf r ++ q), length-append (bytesOf r) q, sixteen-long r) in
     let here : take 16 (drop at s) ≡ bytesOf r = rw (drop-at p (bytesOf r ++ q) at n) (take-at (bytesOf r) q 16 (sixteen-long r)) in
-    sym (read-judged s at w (omega arith) (λ e. omega arith) l) ∙ ap (judged at) (sixteen s at ∙ here) ∙ sym (judged-is at (bytesOf r) 0 (sym (own-fault at r small ∙ f)) refl)
+    sym (read-judged s at w (omega arith) (λ e. omega arith) l) ∙ ap (judged at) (sixteen s at ∙ here)
+    ∙ sym (judged-is at (bytesOf r) 0 (sym (own-fault at r small ∙ f)) refl)
     ∙ ap (λ (x : Record). Found x (at + 16)) (fields-back r small)
 
 module _ (s : List ℕ) (at : ℕ) (r : Record) (e : writeCode (length s) at r ≡ 0) where
@@ -62,13 +63,16 @@ module _ (s : List ℕ) (at : ℕ) (r : Record) (e : writeCode (length s) at r �
 
   -- the reader finds what the writer wrote
   pub written-found : r .value < 18446744073709551616 → readOf (writeOf s at r) at ≡ Found r (at + 16)
-  written-found small = let a = accepted (length s) at r e in ap (λ (l : List ℕ). readOf l at) spilled ∙ found-there (take at s) (drop (at + 16) s) at r before (a .whole) (a .fields) small
+  written-found small =
+      let a = accepted (length s) at r e in ap (λ (l : List ℕ). readOf l at) spilled
+      ∙ found-there (take at s) (drop (at + 16) s) at r before (a .whole) (a .fields) small
 
   -- and hands back the record's bytes
   pub written-part : r .value < 18446744073709551616 → partAt (writeOf s at r) at ≡ bytesOf r
   unfolding partAt
   written-part small =
-      rw (written-found small, spilled, drop-at (take at s) (bytesOf r ++ drop (at + 16) s) at before) (take-at (bytesOf r) (drop (at + 16) s) 16 (sixteen-long r))
+      rw (written-found small, spilled, drop-at (take at s) (bytesOf r ++ drop (at + 16) s) at before)
+      (take-at (bytesOf r) (drop (at + 16) s) 16 (sixteen-long r))
 
   -- the other bytes stay
   pub earlier : take at (writeOf s at r) ≡ take at s
@@ -83,7 +87,14 @@ module _ (s : List ℕ) (at : ℕ) (r : Record) (e : writeCode (length s) at r �
   same-long =
       let h : at + 16 ≤ length s = accepted (length s) at r e .room in
       ap (λ (l : List ℕ). length l) spilled
-      ∙ omega (arith, length-append (take at s) (bytesOf r ++ drop (at + 16) s), length-append (bytesOf r) (drop (at + 16) s), length-drop (at + 16) s, before, sixteen-long r)
+      ∙ omega (
+        arith,
+        length-append (take at s) (bytesOf r ++ drop (at + 16) s),
+        length-append (bytesOf r) (drop (at + 16) s),
+        length-drop (at + 16) s,
+        before,
+        sixteen-long r,
+      )
 
 -- a refused write changes nothing
 pub refused-same : (s : List ℕ) (at : ℕ) (r : Record) → (writeCode (length s) at r ≡ 0 → ⊥) → writeOf s at r ≡ s
@@ -113,7 +124,8 @@ module _ (s : List ℕ) (small : (i : ℕ) → getD s i 0 < 256) where
     where
       go : (b : Bool) → ltb i 16 ≡ b → getD (take 16 (drop at s)) i 0 < 256
       go true e = let h : i < 16 = ltb-true i 16 e in rw (getD-take 16 (drop at s) i 0 h, getD-drop at s i 0) (small (at + i))
-      go false e = let h : 16 ≤ i = ltb-false i 16 e in rw (List·getD-eq-default (take 16 (drop at s)) 0 {n = i} (omega (arith, length-take 16 (drop at s)))) (lit< tt)
+      go false e =
+          let h : 16 ≤ i = ltb-false i 16 e in rw (List·getD-eq-default (take 16 (drop at s)) 0 {n = i} (omega (arith, length-take 16 (drop at s)))) (lit< tt)
 
   pub is-there : (at : ℕ) (r : Record) (next : ℕ) → readOf s at ≡ Found r next → IsThere s at r next
   is-there at r next = go (stands s at)

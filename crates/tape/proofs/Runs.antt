@@ -111,11 +111,13 @@ module _ (s : List ℕ) (small : (i : ℕ) → getD s i 0 < 256) where
       )
 
   -- Where a reader answers records and then the end, those records written into a buffer of the tape's length are the tape.
-  pub run-written : (rs : List Record) → answers (suc (length rs)) s 0 ≡ foundAll 0 rs → (t : List ℕ) → length t ≡ length s → Takes (length t) 0 rs × (writeRun t 0 rs ≡ s)
+  pub run-written : (rs : List Record) → answers (suc (length rs)) s 0 ≡ foundAll 0 rs → (t : List ℕ) → length t ≡ length s → Takes (length t) 0 rs
+      × (writeRun t 0 rs ≡ s)
   run-written rs e t l =
       let k = run-there rs 0 e in
       let takes : Takes (length t) 0 rs = rw l (k .1) in
       let n : length t ≤ 16 * length rs = omega (arith, tape-long rs, ap (λ (x : List ℕ). length x) (k .0)) in (
         takes,
-        run-spilled rs t 0 takes ∙ ap (λ (l : List ℕ). tapeOf rs ++ l) (drop-of-length-le t {i = 0 + 16 * length rs} (omega arith)) ∙ append-nil (tapeOf rs) ∙ sym (k .0),
+        run-spilled rs t 0 takes ∙ ap (λ (l : List ℕ). tapeOf rs ++ l) (drop-of-length-le t {i = 0 + 16 * length rs} (omega arith)) ∙ append-nil (tapeOf rs)
+            ∙ sym (k .0),
       )

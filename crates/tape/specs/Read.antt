@@ -7,10 +7,8 @@ use lib.ListN.{length, take, drop}
 use lib.Dec.{ltb, eqb}
 use denote.Ref.{RefT, now}
 use Rattle.record.specs.Form.{recordOf, isHeader, isBadHeader, isCommand}
-use Rattle.tape.specs.declared.Part.{Part}
 use Rattle.tape.specs.declared.Read.{Read}
 use Rattle.tape.specs.declared.Read.the-variants.{Found, End, Refused}
-use Rattle.tape.specs.declared.Reader.{Reader}
 
 -- 16 bytes at a place: at place 0 a header, else 15, and 17 for its value; elsewhere a command record, else 15
 unfoldable pub judged : ℕ → List ℕ → Read
@@ -22,12 +20,14 @@ judged at p =
 unfoldable pub endOf : ℕ → Read
 endOf n = cond (eqb n 0) (Refused 15) End
 
--- The reader's checks, in their order: a place that is no multiple of 16, past the end, at the end, fewer than 16 bytes left, the 16 bytes.
+-- The reader's checks, in their order: a place that is no multiple of 16, past the end, at the end, fewer than 16
+-- bytes left, the 16 bytes.
 unfoldable pub readOf : List ℕ → ℕ → Read
 readOf s at =
     cond (not (eqb (at % 16) 0)) (Refused 15)
     (cond (ltb (length s) at) (Refused 15)
-    (cond (eqb at (length s)) (endOf (length s)) (cond (ltb (length s) (at + 16)) (Refused 15) (judged at (take 16 (drop at s))))))
+    (cond (eqb at (length s)) (endOf (length s))
+    (cond (ltb (length s) (at + 16)) (Refused 15) (judged at (take 16 (drop at s))))))
 
 -- document 01's number for an answer: 0 for a record and for the end
 abbrev pub numberOf : Read → ℕ
@@ -66,16 +66,9 @@ startAt s at = startOf at (readOf s at)
 unfoldable pub nextAt : List ℕ → ℕ → ℕ
 nextAt s at = placeOf at (readOf s at)
 
--- A part is the one that a reader of the tape at a place hands back: it has those contents, lies in the tape's own memory, and starts there.
+-- A part is the one that a reader of the tape at a place hands back: it has those contents, lies in the tape's own
+-- memory, and starts there.
 abbrev pub PartAt : RefT (List ℕ) → ℕ → RefT (List ℕ) → Type 0
 PartAt tape at part =
-    (now part ≡ partAt (now tape) at) × (part .ptr .0 ≡ tape .ptr .0) × (part .ptr .1 ≡ tape .ptr .1 + startAt (now tape) at)
-
--- the contract of a reader that is opened on a tape
-abbrev pub Opened : RefT (List ℕ) → Reader → Type 0
-Opened tape r = (r .tape ≡ tape) × (r .at ≡ 0)
-
--- the contract of a reader's next record: what is handed back, and the reader after it
-abbrev pub Next : Reader → Part → Reader → Type 0
-Next r p after =
-    PartAt (r .tape) (r .at) (p .bytes) × (p .code ≡ codeAt (now (r .tape)) (r .at)) × (after .tape ≡ r .tape) × (after .at ≡ nextAt (now (r .tape)) (r .at))
+    (now part ≡ partAt (now tape) at) × (part .ptr .0 ≡ tape .ptr .0)
+    × (part .ptr .1 ≡ tape .ptr .1 + startAt (now tape) at)

@@ -1,15 +1,17 @@
-// The tape of document 01: records of 16 bytes one behind another, the header first. (What one record is: crate record.)
+// The tape of document 01: records of 16 bytes one behind another, the header first. (What one record is: crate
+// record.)
 //
-// `write_at` writes a record at a place of a lent buffer. `read_at` says what stands at a place of a tape, and `part_at` hands back a
-// record's own 16 bytes. A `Reader` holds a tape and its place. Every buffer, place and byte string gets an answer: no public function has a
-// `requires`. specs/ says what each answer is.
+// `write_at` writes a record at a place of a lent buffer. `read_at` says what stands at a place of a tape, and
+// `part_at` hands back a record's own 16 bytes. Every buffer, place and byte string gets an answer: no public function
+// has a `requires`. specs/ says what each answer is. (The reader that holds its tape: crate tape_reader.)
 ghost use mathlib.Core.Path.{_≡_};
 ghost use mathlib.Core.List.{_++_};
 ghost use Prim.Native.Nat.{_+_, _≤_, _<_, _^_};
 ghost use lib.ListN.{length, drop};
 ghost use lib.Dec.{ltb};
 ghost use Rattle.tape.specs.Write.{writeCode, Written};
-ghost use Rattle.tape.specs.Read.{judged, endOf, readOf, numberOf, sizeOf, placeOf, codeAt, nextAt, PartAt, Opened, Next};
+ghost use Rattle.tape.specs.Read.{judged, endOf, readOf, numberOf, sizeOf, placeOf, codeAt, nextAt, PartAt};
+use record::RECORD_BYTES;
 pub use record::Record;
 use record::bytes_of;
 use record::choose;
@@ -24,13 +26,13 @@ pub use record::record_of;
 fn lacks_room(n: usize, at: usize) -> bool
     ensures { λ t. ⌜ t ≡ ltb n (at + 16) ⌝ }
 {
-    if n < at { true } else { n - at < 16 }
+    if n < at { true } else { n - at < RECORD_BYTES }
 }
 
 fn write_code(n: usize, at: usize, r: Record) -> u8
     ensures { λ c. ⌜ c ≡ writeCode n at r ⌝ }
 {
-    let odd = at % 16 != 0;
+    let odd = at % RECORD_BYTES != 0;
     let c = fault(at, r);
     let short = lacks_room(n, at);
     choose(odd, 15, choose(c != 0, c, choose(short, 16, 0)))
@@ -41,14 +43,14 @@ fn put(out: &mut [u8], p: [u8; 16])
     ensures { λ _. ⌜ now (out .exit) ≡ p ++ drop 16 (now (out .entry)) ⌝ }
 {
     let mut i: usize = 0;
-    while i < 16 {
+    while i < RECORD_BYTES {
         out[i] = p[i];
         i += 1;
     }
 }
 
-// Writes a record, the header at place 0 and a command record elsewhere, into the part of the buffer that follows the last one. Answers 0,
-// or 15, 17 or 16 with the buffer untouched.
+// Writes a record, the header at place 0 and a command record elsewhere, into the part of the buffer that follows the
+// last one. Answers 0, or 15, 17 or 16 with the buffer untouched.
 pub fn write_at(out: &mut [u8], at: usize, r: Record) -> u8
     ensures { λ c. ⌜ Written (now (out .entry)) at r c (now (out .exit)) ⌝ }
 {
@@ -81,7 +83,7 @@ fn judge(p: &[u8], at: usize) -> Read
     if c != 0 {
         return Read::Refused(c);
     }
-    Read::Found(r, at + 16)
+    Read::Found(r, at + RECORD_BYTES)
 }
 
 fn at_end(n: usize) -> Read
@@ -95,7 +97,7 @@ pub fn read_at(tape: &[u8], at: usize) -> Read
     ensures { λ r. ⌜ r ≡ readOf (now (tape .entry)) at ⌝ }
 {
     let n = tape.len();
-    if at % 16 != 0 {
+    if at % RECORD_BYTES != 0 {
         return Read::Refused(15);
     }
     if n < at {
@@ -104,10 +106,10 @@ pub fn read_at(tape: &[u8], at: usize) -> Read
     if at == n {
         return at_end(n);
     }
-    if n - at < 16 {
+    if n - at < RECORD_BYTES {
         return Read::Refused(15);
     }
-    let next = at + 16;
+    let next = at + RECORD_BYTES;
     judge(&tape[at..next], at)
 }
 
@@ -126,7 +128,7 @@ fn size(r: Read) -> usize
     ensures { λ n. ⌜ n ≡ sizeOf r ⌝ }
 {
     match r {
-        Read::Found(_, _) => 16,
+        Read::Found(_, _) => RECORD_BYTES,
         Read::End => 0,
         Read::Refused(_) => 0,
     }
@@ -157,7 +159,8 @@ pub fn next_at(tape: &[u8], at: usize) -> usize
     place(at, read_at(tape, at))
 }
 
-// The record's own 16 bytes of the tape, no copy; an empty part where there is none. The contract gives the contents and where the part lies.
+// The record's own 16 bytes of the tape, no copy; an empty part where there is none. The contract gives the contents
+// and where the part lies.
 pub fn part_at(tape: &[u8], at: usize) -> &[u8]
     ensures { λ r. ⌜ PartAt (tape .entry) at r ⌝ }
 {
@@ -167,41 +170,4 @@ pub fn part_at(tape: &[u8], at: usize) -> &[u8]
     }
     let end = at + n;
     &tape[at..end]
-}
-
-// ---- The reader that holds its tape
-
-// A tape and a place on it. The borrow checker covers no function over it, so there are two, and both are thin.
-pub struct Reader<'a> {
-    pub tape: &'a [u8],
-    pub at: usize,
-}
-
-// What a reader hands back: a record's own 16 bytes with code 0; for the end no bytes and code 0; for a refusal no bytes and 15 or 17.
-pub struct Part<'a> {
-    pub bytes: &'a [u8],
-    pub code: u8,
-}
-
-// A reader at the start of a tape.
-pub fn open<'a>(tape: &'a [u8]) -> Reader<'a>
-    ensures { λ r. ⌜ Opened (tape .entry) r ⌝ }
-{
-    Reader { tape, at: 0 }
-}
-
-// The next record's part. The reader's place moves behind the record, and is kept at the end and on a refusal.
-pub fn next<'s, 'a>(r: &'s mut Reader<'a>) -> Part<'a>
-    ensures { λ p. ⌜ Next (now (r .entry)) p (now (r .exit)) ⌝ }
-{
-    let tape = r.tape;
-    let at = r.at;
-    let part = part_at(tape, at);
-    let code = code_at(tape, at);
-    let next = next_at(tape, at);
-    r.at = next;
-    Part {
-        bytes: part,
-        code: code,
-    }
 }

@@ -1,4 +1,5 @@
-// The loops that bench/tape times beside C: a tape read from place 0 on, and a buffer filled with records. The library exports nothing to C for it.
+// The loops that bench/tape times beside C: a tape read from place 0 on, and a buffer filled with records. The library
+// exports nothing to C for it.
 use tape::Read;
 use tape::Record;
 ghost use mathlib.Core.Path.{_≡_};

@@ -126,11 +126,11 @@ fn told(at: usize, part: &[u8], code: u8, next: usize, left: u32) -> u32
 
 // A whole tape by one reader, from its opening until its place is kept.
 fn tape_case(tape: &[u8]) {
-    let mut r = tape::open(tape);
+    let mut r = tape_reader::open(tape);
     let mut left: u32 = 101;
     while 0 < left {
         let at = r.at;
-        let p = tape::next(&mut r);
+        let p = tape_reader::next(&mut r);
         left = told(at, p.bytes, p.code, r.at, left);
     }
 }

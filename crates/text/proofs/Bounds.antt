@@ -3,7 +3,7 @@ use Prim.Native.Nat.{_≤_}
 use native.Mathlib.Omega.{arith}
 use lib.ListN.{length, length-append}
 use Rattle.decimal.proofs.BothWays.{decimal-most}
-use Rattle.text.specs.declared.print.Row.{Row}
+use Rattle.text.specs.declared.Row.{Row}
 use Rattle.text.specs.Printed.{answer-fields, walk-line, draw-line, walk-header, draw-header, header-room, walk-room, draw-room}
 
 answer-short : (r : Row) → length (answer-fields r) ≤ 84

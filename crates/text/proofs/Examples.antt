@@ -2,10 +2,10 @@
 use Prim.Native.Nat.{ℕ}
 use mathlib.Core.Path.{_≡_, refl}
 use mathlib.Core.List.{[], _∷_}
-use Rattle.text.specs.declared.command.Spoken.{Spoken}
+use Rattle.text.specs.declared.Spoken.{Spoken}
 use Rattle.decimal.specs.Decimal.{shortest, value-from, number-of, decimal, decimal-in}
 use Rattle.text.specs.Words.{bytes, before, onward, same}
-use Rattle.text.specs.Commands.{named-from, op-named, decimal-next, operand, spoken-by, command-of, no-command}
+use Rattle.text.specs.Commands.{named-from, op-named, decimal-next, operand, operand-unless, spoken-by, command-of, no-command}
 use Rattle.text.specs.FirstLine.{seed-of, text-next, decimals-next, settings-of, fair, judged, refused-with, first-line-of}
 use Rattle.text.specs.Printed.{answer-fields, walk-line, draw-line}
 use Rattle.text.specs.Lines.{ended, begins, lines}
@@ -18,15 +18,17 @@ right-lines : (command-of (bytes "create 1 3") ≡ spoken 1 1 3 0) × (command-o
     × (command-of (bytes "delay 18446744073709551615") ≡ spoken 4 0 0 18446744073709551615) × (command-of (bytes "closep 1 1") ≡ spoken 8 1 1 0)
     × (command-of (bytes "create 255 3") ≡ spoken 1 255 3 0) × (command-of (bytes "entry 1 2") ≡ spoken 10 1 2 0)
     × (command-of (bytes "done 1 0") ≡ spoken 11 1 0 0) × (command-of (bytes "done 1 1") ≡ spoken 11 1 1 0) × (command-of (bytes "done 1 2") ≡ spoken 11 1 2 0)
-unfolding command-of spoken-by op-named named-from same before onward operand decimal-next number-of shortest value-from
+unfolding command-of spoken-by op-named named-from same before onward operand-unless operand decimal-next number-of shortest value-from
 right-lines = (refl, refl, refl, refl, refl, refl, refl, refl, refl)
 
 -- what has not the form: done without its barrier, too
 wrong-lines : (command-of [] ≡ no-command) × (command-of (bytes "start 0") ≡ no-command) × (command-of (bytes "open 01") ≡ no-command)
-    × (command-of (bytes "open 256") ≡ no-command) × (command-of (bytes "delay 18446744073709551616") ≡ no-command) × (command-of (bytes "open  1") ≡ no-command)
-    × (command-of (bytes "open 1 ") ≡ no-command) × (command-of (bytes " wake") ≡ no-command) × (command-of (bytes "wake\r") ≡ no-command) × (command-of (bytes "Wake") ≡ no-command)
+    × (command-of (bytes "open 256") ≡ no-command) × (command-of (bytes "delay 18446744073709551616") ≡ no-command) ×
+    (command-of (bytes "open  1") ≡ no-command)
+    × (command-of (bytes "open 1 ") ≡ no-command) × (command-of (bytes " wake") ≡ no-command) × (command-of (bytes "wake\r") ≡ no-command) ×
+    (command-of (bytes "Wake") ≡ no-command)
     × (command-of (bytes "done 1") ≡ no-command) × (command-of (bytes "done 1 0 0") ≡ no-command)
-unfolding command-of spoken-by op-named named-from same before onward operand decimal-next number-of shortest value-from
+unfolding command-of spoken-by op-named named-from same before onward operand-unless operand decimal-next number-of shortest value-from
 wrong-lines = (refl, refl, refl, refl, refl, refl, refl, refl, refl, refl, refl, refl)
 
 -- "-1647531835" is refused; 2647435461 is its unsigned reading

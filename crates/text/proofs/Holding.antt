@@ -10,8 +10,8 @@ use lib.Dec.{leb}
 use lib.ListN.{length, take, drop, set, getD, drop-of-length-le}
 use lib.Seq.{sets, drop-cons, set-out, take-all}
 use Rattle.rules.specs.Line.{empty}
-use Rattle.text.specs.declared.split.Held.{Held}
-use Rattle.text.specs.declared.split.Cut.{Cut}
+use Rattle.text.specs.declared.Held.{Held}
+use Rattle.text.specs.declared.Cut.{Cut}
 use Rattle.text.specs.Words.{before, onward}
 use Rattle.text.specs.Lines.{held-bytes, hold-more, end-from, cut-of}
 use Rattle.text.proofs.Scan.{word-part, behind-part}
@@ -23,7 +23,8 @@ pub sets-out : (vs l : List ℕ) (i : ℕ) → length l ≤ i → sets l i vs �
 sets-out [] l i h = refl
 sets-out (v ∷ vs) l i h = rw (set-out l i v h) (sets-out vs l (suc i) (omega arith))
 
-pub one-held : (bytes piece : List ℕ) (n i : ℕ) → i < length piece → sets (set bytes n (getD piece i 0)) (n + 1) (drop (i + 1) piece) ≡ sets bytes n (drop i piece)
+pub one-held : (bytes piece : List ℕ) (n i : ℕ) → i < length piece
+    → sets (set bytes n (getD piece i 0)) (n + 1) (drop (i + 1) piece) ≡ sets bytes n (drop i piece)
 one-held bytes piece n i h = rw (add-one n, add-one i, drop-cons piece i 0 h)
 
 module _ (h : Held) (piece bytes₀ bytes : List ℕ) (n₀ n i : ℕ) (e₀ : bytes₀ ≡ h .bytes) (c₀ : n₀ ≡ min 129 (h .count)) (b : n ≤ 129) (l : length bytes ≡ 129)
@@ -66,10 +67,6 @@ module _ (h : Held) (s : List ℕ) (at : ℕ) where
     pub cut-part : length s ≤ end → record { whole = false; held = held; next = end } ≡ cut-of h s at
     unfolding cut-of end-from
     cut-part o = rw (line-ends, le-leb (length s) end o, ← e, hold-line)
-
-pub no-end : (s : List ℕ) (at : ℕ) → length s < at → at ≡ end-from s at
-unfolding end-from before
-no-end s at o = let g : length s ≤ at = omega arith in rw (drop-of-length-le s g) (omega arith)
 
 -- ---- what is held, whoever made the count
 

@@ -1,13 +1,11 @@
 pub mod Stores
 pub mod Scan
 pub mod Parts
-pub mod Opening
 pub mod Kept
 pub mod Holding
 pub mod OneLine
 pub mod Pieces
-pub mod Telling
+pub mod CommandsWhole
 pub mod Bounds
 pub mod Examples
 pub mod Theorems
-pub mod Single

@@ -9,7 +9,7 @@ use lib.Dec.{eqb}
 use lib.ListN.{length, take, drop, set, length-take, length-drop}
 use lib.Seq.{sets, length-sets, take-all, append-snoc, drop-drop, take-take}
 use Rattle.rules.specs.Line.{empty}
-use Rattle.text.specs.declared.split.Held.{Held}
+use Rattle.text.specs.declared.Held.{Held}
 use Rattle.text.specs.Words.{before, onward, line-end}
 use Rattle.text.specs.Lines.{ended, begins, last-piece, lines, kept, held-bytes, nothing-held, hold-more, end-from, cut-of, cuts, holds-after, lines-of-pieces, joined}
 use Rattle.text.proofs.Holding.{held-part}
@@ -22,8 +22,10 @@ module _ (b : List ℕ) where
   ended-append begun [] = refl
   ended-append begun (x ∷ a) = go (eqb x line-end) (ended-append [] a) (ended-append (begun ++ (x ∷ [])) a)
     where
-      go : (t : Bool) → ended [] (a ++ b) ≡ ended [] a ++ ended (begins [] a) b → ended (begun ++ (x ∷ [])) (a ++ b) ≡ ended (begun ++ (x ∷ [])) a ++ ended (begins (begun ++ (x ∷ [])) a) b
-          → cond t (begun ∷ ended [] (a ++ b)) (ended (begun ++ (x ∷ [])) (a ++ b)) ≡ cond t (begun ∷ ended [] a) (ended (begun ++ (x ∷ [])) a) ++ ended (cond t (begins [] a) (begins (begun ++ (x ∷ [])) a)) b
+      go : (t : Bool) → ended [] (a ++ b) ≡ ended [] a ++ ended (begins [] a) b
+          → ended (begun ++ (x ∷ [])) (a ++ b) ≡ ended (begun ++ (x ∷ [])) a ++ ended (begins (begun ++ (x ∷ [])) a) b
+          → cond t (begun ∷ ended [] (a ++ b)) (ended (begun ++ (x ∷ [])) (a ++ b)) ≡ cond t (begun ∷ ended [] a) (ended (begun ++ (x ∷ [])) a) ++ ended
+          (cond t (begins [] a) (begins (begun ++ (x ∷ [])) a)) b
       go true p q = ap (λ (l : List (List ℕ)). begun ∷ l) p
       go false p q = q
 
@@ -110,7 +112,8 @@ module _ (h : Held) (p : List ℕ) (e : length (h .bytes) ≡ 129) where
   unfolding hold-more
   held-more =
       let n = min 129 (h .count) in
-      let s : take (min (length (h .bytes)) (n + length p)) (sets (h .bytes) n p) ≡ take (length (h .bytes)) (take n (h .bytes) ++ p) = stored n (h .bytes) p (omega arith) in
+      let s : take (min (length (h .bytes)) (n + length p)) (sets (h .bytes) n p) ≡ take (length (h .bytes)) (take n (h .bytes) ++ p) = stored n (h .bytes) p
+      (omega arith) in
       let t : take n (h .bytes) ≡ held-bytes h = held-part h n e refl in
       rw (e, t) at s
 
@@ -138,17 +141,22 @@ not-ended (b ∷ l) p e = go (eqb b line-end) refl e (not-ended l (p ++ (b ∷ [
     go true t f ih = absurd (false≢true f)
     go false t f ih = let r = ih f in (r .0, r .1 ∙ append-snoc p b (before line-end l))
 
-one-ended : (l p : List ℕ) → empty (onward line-end l) ≡ false → (ended p l ≡ (p ++ before line-end l) ∷ ended [] (behind-end l)) × (begins p l ≡ begins [] (behind-end l))
+one-ended : (l p : List ℕ) → empty (onward line-end l) ≡ false
+    → (ended p l ≡ (p ++ before line-end l) ∷ ended [] (behind-end l)) × (begins p l ≡ begins [] (behind-end l))
 unfolding ended begins before onward behind-end
 one-ended [] p e = absurd (false≢true (sym e))
 one-ended (b ∷ l) p e = go (eqb b line-end) refl e (one-ended l (p ++ (b ∷ [])))
   where
     go : (t : Bool) → eqb b line-end ≡ t → empty (cond t (b ∷ l) (onward line-end l)) ≡ false
-        → (empty (onward line-end l) ≡ false → (ended (p ++ (b ∷ [])) l ≡ (p ++ (b ∷ []) ++ before line-end l) ∷ ended [] (drop (suc (length (before line-end l))) l)) × (begins (p ++ (b ∷ [])) l ≡ begins [] (drop (suc (length (before line-end l))) l)))
-        → (cond t (p ∷ ended [] l) (ended (p ++ (b ∷ [])) l) ≡ (p ++ cond t [] (b ∷ before line-end l)) ∷ ended [] (drop (suc (length (cond t [] (b ∷ before line-end l)))) (b ∷ l)))
+        → (empty (onward line-end l) ≡ false → (ended (p ++ (b ∷ [])) l ≡ (p ++ (b ∷ []) ++ before line-end l) ∷ ended []
+        (drop (suc (length (before line-end l))) l)) × (begins (p ++ (b ∷ [])) l ≡ begins [] (drop (suc (length (before line-end l))) l)))
+        → (cond t (p ∷ ended [] l) (ended (p ++ (b ∷ [])) l) ≡ (p ++ cond t [] (b ∷ before line-end l)) ∷ ended []
+        (drop (suc (length (cond t [] (b ∷ before line-end l)))) (b ∷ l)))
         × (cond t (begins [] l) (begins (p ++ (b ∷ [])) l) ≡ begins [] (drop (suc (length (cond t [] (b ∷ before line-end l)))) (b ∷ l)))
     go true t f ih = (ap (λ (x : List ℕ). x ∷ ended [] l) (sym (append-nil p)), refl)
-    go false t f ih = let r = ih f in (r .0 ∙ ap (λ (x : List ℕ). x ∷ ended [] (drop (suc (length (before line-end l))) l)) (append-snoc p b (before line-end l)), r .1)
+    go false t f ih =
+        let r = ih f in
+        (r .0 ∙ ap (λ (x : List ℕ). x ∷ ended [] (drop (suc (length (before line-end l))) l)) (append-snoc p b (before line-end l)), r .1)
 
 some-end : (l : List ℕ) → empty (onward line-end l) ≡ false → 0 < length l
 unfolding onward
@@ -220,7 +228,8 @@ cuts-read zero h s at e l = go (empty (onward line-end (drop at s))) refl
     go false t = absurd (let z : 0 < length (drop at s) = some-end (drop at s) t in omega arith)
 cuts-read (suc n) h s at e l = go (empty (onward line-end (drop at s))) refl (cuts-read n nothing-held s (end-from s at + 1) nothing-size)
   where
-    go : (t : Bool) → empty (onward line-end (drop at s)) ≡ t → (length (drop (end-from s at + 1) s) ≤ n → Cuts-read n nothing-held s (end-from s at + 1)) → Cuts-read (suc n) h s at
+    go : (t : Bool) → empty (onward line-end (drop at s)) ≡ t → (length (drop (end-from s at + 1) s) ≤ n → Cuts-read n nothing-held s (end-from s at + 1))
+        → Cuts-read (suc n) h s at
     go true t ih = part-read (suc n) h s at e t
     go false t ih = whole-read n h s at e t (ih (rw (behind-cut s at) (shorter (drop at s) l)))
       where

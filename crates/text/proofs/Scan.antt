@@ -7,7 +7,7 @@ use mathlib.Core.Path.{_≡_, refl, ap, sym}
 use mathlib.Core.List.{List, [], _∷_, _++_}
 use borrow.Author.Tests.{eq-eqb, ne-eqb}
 use lib.Dec.{eqb}
-use lib.ListN.{length, take, drop, getD, drop-of-length-le, take-append-drop}
+use lib.ListN.{length, take, drop, getD, drop-of-length-le, take-append-drop, length-append, length-drop}
 use lib.Seq.{drop-cons, drop-drop}
 use Rattle.text.specs.Words.{before, onward, same}
 
@@ -80,3 +80,9 @@ module _ (stop : ℕ) where
 
     pub behind-part : drop end s ≡ onward stop (drop at s)
     behind-part = rw (e, ← drop-drop (length (before stop (drop at s))) at s) (drop-before (drop at s))
+
+    -- and it lies in the line where the first place does
+    pub place-within : at ≤ length s → end ≤ length s
+    place-within h =
+        let l = simp length-append at (ap length (word-behind (drop at s))) in
+        omega (arith, e, h, l, length-drop at s)

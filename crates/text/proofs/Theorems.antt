@@ -11,20 +11,20 @@ use lib.Dec.{eqb, leb}
 use lib.ListN.{length}
 use Rattle.rules.specs.Line.{all-below, one-if, empty, every}
 use Rattle.rules.specs.Kinds.{last-op, kind-at}
-use Rattle.rules.specs.Refusals.{Operand, operands, never, unused, task, object, priority, barrier, time, ticks}
+use Rattle.rules.specs.Refusals.{Operand, operands, never, unused, task, object, priority, ceiling, barrier, time, ticks}
 use Rattle.rules.proofs.Tests.{both-true, tests-all-below, tests-and, tests-eq}
-use Rattle.text.specs.declared.command.Spoken.{Spoken}
+use Rattle.text.specs.declared.Spoken.{Spoken}
 use Rattle.decimal.specs.Decimal.{digit, number-of, decimal}
 use Rattle.decimal.proofs.BothWays.{number-parts, number-bound, digits-most}
 use Rattle.decimal.proofs.Theorems.{printed-reads, read-prints}
-use Rattle.text.specs.Commands.{uses-a, uses-b, uses-value, op-named, operand, spoken-by, command-of, no-command, line-of}
+use Rattle.text.specs.Commands.{uses-a, uses-b, uses-value, omits-a, op-named, operand, operand-unless, spoken-by, command-of, no-command, line-of}
 use Rattle.text.specs.Words.{word, behind}
 use Rattle.text.specs.FirstLine.{seed-of, first-line-of}
 use Rattle.text.specs.Lines.{lines, kept, joined, nothing-held, lines-of-pieces, commands-of-pieces}
 use Rattle.text.proofs.Kept.{kept-says, kept-opens}
 use Rattle.text.proofs.OneLine.{Command, line-reads, line-said}
 use Rattle.text.proofs.Pieces.{pieces-whole}
-use Rattle.text.proofs.Telling.{pieces-told}
+use Rattle.text.proofs.CommandsWhole.{commands-of-pieces-whole}
 
 -- ---- seed text
 
@@ -43,11 +43,11 @@ pub record Seed (w : List ℕ) : Type 0 where
 
 pub seed-read : (w : List ℕ) → seed-of w .code ≡ 0 → Seed w
 unfolding seed-of
-seed-read w = go (number-of w 4294967295 .fine && leb 1 (number-of w 4294967295 .value)) refl
+seed-read w = go (number-of w 4294967295 .valid && leb 1 (number-of w 4294967295 .value)) refl
   where
-    go : (t : Bool) → (number-of w 4294967295 .fine && leb 1 (number-of w 4294967295 .value)) ≡ t → seed-of w .code ≡ 0 → Seed w
+    go : (t : Bool) → (number-of w 4294967295 .valid && leb 1 (number-of w 4294967295 .value)) ≡ t → seed-of w .code ≡ 0 → Seed w
     go true t e =
-        let p = both-true (number-of w 4294967295 .fine) (leb 1 (number-of w 4294967295 .value)) t in
+        let p = both-true (number-of w 4294967295 .valid) (leb 1 (number-of w 4294967295 .value)) t in
         let d = number-parts w 4294967295 (p .0) in
         let r : decimal (number-of w 4294967295 .value) ≡ w = read-prints w 4294967295 (omega arith) (p .0) in
         let b : number-of w 4294967295 .value ≤ 4294967295 = number-bound w 4294967295 in
@@ -78,10 +78,10 @@ either false op a b v f = absurd (f refl)
 spoken-code : (op : ℕ) (l : List ℕ) → (spoken-by op l .code ≡ 14 → ⊥) → spoken-by op l .code ≡ 0
 unfolding spoken-by
 spoken-code op l =
-    let a = operand (uses-a op) 255 l in
+    let a = operand-unless (omits-a op) (uses-a op) 255 l in
     let b = operand (uses-b op) 255 (a .left) in
     let v = operand (uses-value op) 18446744073709551615 (b .left) in
-    either (leb 1 op && a .fine && b .fine && v .fine && empty (v .left)) op (a .value) (b .value) (v .value)
+    either (leb 1 op && a .valid && b .valid && v .valid && empty (v .left)) op (a .value) (b .value) (v .value)
 
 zero-or-14 : (l : List ℕ) → (command-of l .code ≡ 14 → ⊥) → command-of l .code ≡ 0
 unfolding command-of
@@ -122,7 +122,7 @@ lines-whole ps = pieces-whole ps
 -- And the commands out of them are those of the lines of the whole input, each line's once and in order. (Rules out a reader that answers a
 -- line by another's command, or one read where it lies otherwise than one that was held.)
 pub commands-whole : (ps : List (List ℕ)) → commands-of-pieces nothing-held ps ≡ map command-of (lines (joined ps))
-commands-whole ps = pieces-told ps
+commands-whole ps = commands-of-pieces-whole ps
 
 -- ---- the operands in use are those of the rules
 
@@ -134,11 +134,13 @@ in-use unused = 0
 in-use task = 1
 in-use object = 1
 in-use priority = 1
+in-use ceiling = 1
 in-use barrier = 1
 in-use time = 1
 in-use ticks = 1
 
-pub same-operands : (op : ℕ) → op < suc last-op → (in-use (operands (kind-at op) .a) ≡ one-if (uses-a op)) × ((in-use (operands (kind-at op) .b) ≡ one-if (uses-b op)) × (in-use (operands (kind-at op) .value) ≡ one-if (uses-value op)))
+pub same-operands : (op : ℕ) → op < suc last-op
+    → (in-use (operands (kind-at op) .a) ≡ one-if (uses-a op)) × ((in-use (operands (kind-at op) .b) ≡ one-if (uses-b op)) × (in-use (operands (kind-at op) .value) ≡ one-if (uses-value op)))
 unfolding all-below
 same-operands op h =
     tests-all-below

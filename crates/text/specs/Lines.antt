@@ -6,15 +6,15 @@ use lib.Dec.{eqb}
 use lib.ListN.{length, take, drop, replicate}
 use lib.Seq.{sets}
 use Rattle.rules.specs.Line.{empty}
-use Rattle.text.specs.declared.split.Held.{Held}
-use Rattle.text.specs.declared.split.Cut.{Cut}
-use Rattle.text.specs.declared.split.Told.{Told}
-use Rattle.text.specs.declared.command.Spoken.{Spoken}
+use Rattle.text.specs.declared.Held.{Held}
+use Rattle.text.specs.declared.Cut.{Cut}
+use Rattle.text.specs.declared.NextCommand.{NextCommand}
+use Rattle.text.specs.declared.Spoken.{Spoken}
 use Rattle.text.specs.Commands.{command-of, no-command}
 use Rattle.text.specs.Words.{line-end, before, onward}
 
--- The line end is byte 10 and nothing else. The lines that end in l, behind `begun`, the bytes of a line that has begun; and the bytes of
--- the line that l leaves begun.
+-- The line end is byte 10 and nothing else. The lines that end in l, behind `begun`, the bytes of a line that has
+-- begun; and the bytes of the line that l leaves begun.
 unfoldable pub ended : List ℕ → List ℕ → List (List ℕ)
 ended begun [] = []
 ended begun (b ∷ l) = cond (eqb b line-end) (begun ∷ ended [] l) (ended (begun ++ (b ∷ [])) l)
@@ -30,7 +30,8 @@ last-piece begun = cond (empty begun) [] (begun ∷ [])
 unfoldable pub lines : List ℕ → List (List ℕ)
 lines l = ended [] l ++ last-piece (begins [] l)
 
--- What is kept of a line: all of it, up to 128 bytes; of a longer one 129, so that it is known to be too long for any use.
+-- What is kept of a line: all of it, up to 128 bytes; of a longer one 129, so that it is known to be too long for any
+-- use.
 abbrev pub keep-most : ℕ
 keep-most = 129
 
@@ -47,13 +48,17 @@ nothing-held = record { bytes = replicate keep-most 0; count = 0 }
 -- a piece more of the line; what finds no room is left out
 unfoldable pub hold-more : Held → List ℕ → Held
 hold-more h piece =
-    record { bytes = sets (h .bytes) (min keep-most (h .count)) piece; count = min keep-most (min keep-most (h .count) + length piece) }
+    record {
+      bytes = sets (h .bytes) (min keep-most (h .count)) piece;
+      count = min keep-most (min keep-most (h .count) + length piece);
+    }
 
 -- the place of the first line end from a place on, or the end
 unfoldable pub end-from : List ℕ → ℕ → ℕ
 end-from s at = at + length (before line-end (drop at s))
 
--- From a place on: the line up to the next line end, whole, and the place behind that; or all that is left, and more is needed.
+-- From a place on: the line up to the next line end, whole, and the place behind that; or all that is left, and more
+-- is needed.
 unfoldable pub cut-of : Held → List ℕ → ℕ → Cut
 cut-of h s at =
     cond (empty (onward line-end (drop at s)))
@@ -61,15 +66,15 @@ cut-of h s at =
     (record { whole = true; held = hold-more h (before line-end (drop at s)); next = end-from s at + 1 })
 
 -- The same for a reader of commands: what a whole line says, and nothing held behind it.
-unfoldable pub told-of : Held → List ℕ → ℕ → Told
-told-of h s at =
+unfoldable pub next-command-of : Held → List ℕ → ℕ → NextCommand
+next-command-of h s at =
     let c = cut-of h s at in
     cond (c .whole)
-    (record { whole = true; said = command-of (held-bytes (c .held)); held = nothing-held; next = c .next })
-    (record { whole = false; said = no-command; held = c .held; next = c .next })
+    (record { whole = true; spoken = command-of (held-bytes (c .held)); held = nothing-held; next = c .next })
+    (record { whole = false; spoken = no-command; held = c .held; next = c .next })
 
--- The lines that a reader gets out of a piece, and what it holds behind it: cut after cut, nothing held behind a whole line. A piece of n
--- bytes has at most n line ends.
+-- The lines that a reader gets out of a piece, and what it holds behind it: cut after cut, nothing held behind a
+-- whole line. A piece of n bytes has at most n line ends.
 unfoldable pub cuts : ℕ → Held → List ℕ → ℕ → List (List ℕ)
 cuts zero h s at = []
 cuts (suc n) h s at =
@@ -93,15 +98,16 @@ joined [] = []
 joined (p ∷ ps) = p ++ joined ps
 
 -- the commands that a reader of commands gets out of a piece, and out of pieces to the end of the input
-unfoldable pub tells : ℕ → Held → List ℕ → ℕ → List Spoken
-tells zero h s at = []
-tells (suc n) h s at =
-    let c = told-of h s at in
-    cond (c .whole) (c .said ∷ tells n (c .held) s (c .next)) []
+unfoldable pub commands-in : ℕ → Held → List ℕ → ℕ → List Spoken
+commands-in zero h s at = []
+commands-in (suc n) h s at =
+    let c = next-command-of h s at in
+    cond (c .whole) (c .spoken ∷ commands-in n (c .held) s (c .next)) []
 
-unfoldable pub last-told : List ℕ → List Spoken
-last-told begun = cond (empty begun) [] (command-of begun ∷ [])
+unfoldable pub last-command : List ℕ → List Spoken
+last-command begun = cond (empty begun) [] (command-of begun ∷ [])
 
 unfoldable pub commands-of-pieces : Held → List (List ℕ) → List Spoken
-commands-of-pieces h [] = last-told (held-bytes h)
-commands-of-pieces h (p ∷ ps) = tells (suc (length p)) h p 0 ++ commands-of-pieces (holds-after (suc (length p)) h p 0) ps
+commands-of-pieces h [] = last-command (held-bytes h)
+commands-of-pieces h (p ∷ ps) =
+    commands-in (suc (length p)) h p 0 ++ commands-of-pieces (holds-after (suc (length p)) h p 0) ps

@@ -4,7 +4,7 @@ use mathlib.Core.Path.{_≡_}
 use mathlib.Core.List.{List, [], _∷_, _++_}
 use lib.ListN.{length}
 use lib.Seq.{sets}
-use Rattle.text.specs.declared.print.Row.{Row}
+use Rattle.text.specs.declared.Row.{Row}
 use Rattle.decimal.specs.Decimal.{decimal}
 use Rattle.text.specs.Words.{bytes, blank, line-end}
 
@@ -20,7 +20,8 @@ field n end = decimal n ++ (end ∷ [])
 
 -- what both show of the answer: code, running, released, clock
 unfoldable pub answer-fields : Row → List ℕ
-answer-fields r = field (r .code) blank ++ field (r .running) blank ++ field (r .released) blank ++ field (r .clock) line-end
+answer-fields r =
+    field (r .code) blank ++ field (r .running) blank ++ field (r .released) blank ++ field (r .clock) line-end
 
 -- walk: line number, op, and the answer
 unfoldable pub walk-line : Row → List ℕ
@@ -29,7 +30,8 @@ walk-line r = field (r .n) blank ++ field (r .op) blank ++ answer-fields r
 -- draw: a, b and value behind op
 unfoldable pub draw-line : Row → List ℕ
 draw-line r =
-    field (r .n) blank ++ field (r .op) blank ++ field (r .a) blank ++ field (r .b) blank ++ field (r .value) blank ++ answer-fields r
+    field (r .n) blank ++ field (r .op) blank ++ field (r .a) blank ++ field (r .b) blank ++ field (r .value) blank
+    ++ answer-fields r
 
 -- the room that a header, a line of walk and a line of draw ask for: no less than they ever need
 abbrev pub header-room : ℕ

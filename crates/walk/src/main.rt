@@ -1,4 +1,4 @@
 // The program walk, over standard input.
 fn main() {
-    programs::walk::run(libc::STDIN_FILENO);
+    programs_walk::run(libc::STDIN_FILENO);
 }

@@ -2,7 +2,7 @@
 use borrow.Author.Needs.{needs}
 use mathlib.Core.Path.{ap, _∙_}
 use Rattle.generator.specs.declared.Carried.{Carried}
-use Rattle.image.proofs.Exits.{same-kept}
+use Rattle.image.proofs.Exits.{same-left}
 use Rattle.image.proofs.draw_and_keep.Statement.{statement}
 use Rattle.image.proofs.draw_and_keep.Tie as tie
 
@@ -21,7 +21,7 @@ returns c =
     let drawing = keeping .before .before .before .before .before .before .before .before .before .before .before .before in
     let image = drawing .before .before .before .before .before .before .before .before .before .before .before .before .before .args .image .now in
     let w = drawing .draw-step-on .ensures in
-    (w .1, keeping .keep .ensures .1 ∙ same-kept image (w .0) (ap (λ (r : Carried). r .answer) (w .1)))
+    (w .1, keeping .keep .ensures .1 ∙ same-left image (w .0) (ap (λ (r : Carried). r .answer) (w .1)))
 
 pub draw-and-keep-spec : {M : Type 1} → statement M
 draw-and-keep-spec = tie.close (tie.spec draw-step-on-requires keep-requires same-length returns)

@@ -3,7 +3,7 @@ use borrow.Author.Needs.{needs}
 use borrow.Author.Tests.{eq-eqb, ne-eqb}
 use lib.ListN.{length}
 use Rattle.kernel.specs.View.{encode}
-use Rattle.image.specs.Calls.{freshAnswer, freshImage}
+use Rattle.image_calls.specs.Calls.{freshAnswer, freshImage}
 use Rattle.image.proofs.rvn_fresh.Statement.{statement}
 use Rattle.image.proofs.rvn_fresh.Tie as tie
 

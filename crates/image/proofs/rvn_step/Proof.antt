@@ -1,7 +1,7 @@
 -- `rvn_step` meets its contract: what the step of the command that fits leaves, packed and laid out. Assumes nothing.
 use borrow.Author.Needs.{needs}
 use mathlib.Core.Path.{_∙_}
-use Rattle.image.specs.Calls.{told}
+use Rattle.image_calls.specs.Calls.{told}
 use Rattle.image.proofs.Exits.{step-ends}
 use Rattle.image.proofs.rvn_step.Statement.{statement}
 use Rattle.image.proofs.rvn_step.Tie as tie

@@ -3,9 +3,9 @@ use borrow.Author.Needs.{needs}
 use borrow.Author.Tests.{not-true, not-false}
 use mathlib.Core.Path.{sym, ap, _∙_}
 use Rattle.kernel.specs.declared.Left.{Left}
-use Rattle.layout.specs.Layout.{kernelOf}
-use Rattle.image.specs.Calls.{packedLeft}
-use Rattle.image.proofs.Cut.{asked-left}
+use Rattle.image_form.specs.Layout.{kernelOf}
+use Rattle.image_calls.specs.Calls.{packedLeft}
+use Rattle.image_calls.proofs.Cut.{asked-left}
 use Rattle.image.proofs.Exits.{none-left, answered-left}
 use Rattle.image.proofs.rvn_wakes_left.Statement.{statement}
 use Rattle.image.proofs.rvn_wakes_left.Tie as tie

@@ -3,7 +3,7 @@ use borrow.Author.Needs.{needs}
 use borrow.Author.Tests.{not-true, not-false}
 use mathlib.Core.Path.{sym, ap, _∙_}
 use Rattle.kernel.specs.declared.Kernel.{Kernel}
-use Rattle.kernel.specs.Public.{said, stepOf}
+use Rattle.kernel.specs.Public.{to-rules, stepOf}
 use Rattle.image.proofs.step_on.Statement.{statement}
 use Rattle.image.proofs.step_on.Tie as tie
 
@@ -26,7 +26,7 @@ returns-2 : tie.Need-returns-2
 returns-2 c =
     let test = c .before .before .before .before .before .before .before .before .before .before .before in
     let reading = test .before in
-    let asked = said (reading .before .before .before .before .before .before .before .before .before .before .before .before .args .c) in
+    let asked = to-rules (reading .before .before .before .before .before .before .before .before .before .before .before .before .args .c) in
     let h = sym (reading .read .ensures .0) ∙ not-false _ (test .if1 .left) in
     let state = rw h at (reading .read .ensures .1) in
     rw h (c .step .ensures .0 ∙ ap (λ (k : Kernel). stepOf k asked .next) state, c .step .ensures .1 ∙ ap (λ (k : Kernel). stepOf k asked .answer) state)

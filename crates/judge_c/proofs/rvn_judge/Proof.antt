@@ -3,7 +3,7 @@ use mathlib.Core.Path.{ap, _∙_}
 use borrow.Author.Needs.{needs}
 use borrow.Author.Tests.{ne-eqb}
 use lib.ListN.{length, getD}
-use Rattle.judge_c.specs.Call.{told, answer, numbers}
+use Rattle.judge_c.specs.Call.{reply-to, answer, numbers}
 use Rattle.judge_c.proofs.Exits.{third, fourth, answered, written}
 use Rattle.judge_c.proofs.rvn_judge.Statement.{statement}
 use Rattle.judge_c.proofs.rvn_judge.Tie as tie
@@ -15,8 +15,8 @@ returns c = let n = ne-eqb (length (c .before .before .before .args .verdict .no
 judged-requires : tie.Need-judged-requires
 judged-requires c κs = search needs
 
-told-requires : tie.Need-told-requires
-told-requires c κs = search needs
+reply-to-requires : tie.Need-reply-to-requires
+reply-to-requires c κs = search needs
 
 array-read-verdict : tie.Need-array-read-verdict
 array-read-verdict c = search needs
@@ -36,7 +36,7 @@ array-read-verdict-3 c = search needs
 slice-write-verdict-3 : tie.Need-slice-write-verdict-3
 slice-write-verdict-3 c =
     let lent = c .before .before .before .before .before .before .args .verdict .now in
-    let n = c .before .told .result .numbers in third lent (getD n 0 0) (getD n 1 0) (c .before .before .before .if1 .left)
+    let n = c .before .reply-to .result .numbers in third lent (getD n 0 0) (getD n 1 0) (c .before .before .before .if1 .left)
 
 array-read-verdict-4 : tie.Need-array-read-verdict-4
 array-read-verdict-4 c = search needs
@@ -44,7 +44,7 @@ array-read-verdict-4 c = search needs
 slice-write-verdict-4 : tie.Need-slice-write-verdict-4
 slice-write-verdict-4 c =
     let lent = c .before .before .before .before .before .before .args .verdict .now in
-    let n = c .before .told .result .numbers in fourth lent (getD n 0 0) (getD n 1 0) (getD n 2 0) (c .before .before .before .if1 .left)
+    let n = c .before .reply-to .result .numbers in fourth lent (getD n 0 0) (getD n 1 0) (getD n 2 0) (c .before .before .before .if1 .left)
 
 same-length : tie.Need-same-length
 same-length c = search needs
@@ -52,7 +52,7 @@ same-length c = search needs
 returns-2 : tie.Need-returns-2
 returns-2 c =
     let a = c .before .before .before .before .before .before .args in
-    let e = c .before .told .ensures ∙ ap told (c .before .before .judged .ensures) in
+    let e = c .before .reply-to .ensures ∙ ap reply-to (c .before .before .judged .ensures) in
     let four = c .before .before .before .if1 .left in
     (answered (a .tape .now) (a .verdict .now) _ e four, written (a .tape .now) (a .verdict .now) _ e four)
 
@@ -62,7 +62,7 @@ rvn-judge-spec =
     (tie.spec
     returns
     judged-requires
-    told-requires
+    reply-to-requires
     array-read-verdict
     slice-write-verdict
     array-read-verdict-2

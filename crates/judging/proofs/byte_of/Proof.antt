@@ -1,8 +1,8 @@
--- `byte_of` meets its contract: Hearing's laws of the first n of a list and then another, entry by entry. Assumes nothing.
+-- `byte_of` meets its contract: Bytewise's laws of the first n of a list and then another, entry by entry. Assumes nothing.
 use mathlib.Core.Path.{_≡_}
 use native.Mathlib.Omega.{arith}
 use lib.ListN.{length}
-use Rattle.judging.proofs.Hearing.{entry-held, entry-new, entry-none}
+use Rattle.judging.proofs.Bytewise.{entry-held, entry-new, entry-none}
 use borrow.Author.Needs.{needs}
 use Rattle.judging.proofs.byte_of.Statement.{statement}
 use Rattle.judging.proofs.byte_of.Tie as tie

@@ -6,7 +6,8 @@ use mathlib.Core.List.{_++_}
 use lib.ListN.{length, take, length-set}
 use Rattle.kernel.specs.View.{pad}
 use Rattle.kernel.proofs.Padded.{pad-size}
-use Rattle.judging.proofs.Hearing.{getD-pad, turn, filled}
+use Rattle.record.proofs.Filled.{turn, whole}
+use Rattle.judging.proofs.Bytewise.{getD-pad}
 use borrow.Author.Needs.{needs}
 use Rattle.judging.proofs.together.Statement.{statement}
 use Rattle.judging.proofs.together.Tie as tie
@@ -45,7 +46,7 @@ returns c =
     let l = c .before .loop in
     let a = c .before .before .before .args in
     let t = take (a .n) (a .held) ++ a .piece .now in
-    filled (l .out) (pad 16 t) (l .i) 16 (omega arith) (l .inv .1) (pad-size 16 t) (l .inv .2)
+    whole (l .out) (pad 16 t) (l .i) 16 (omega arith) (l .inv .1) (pad-size 16 t) (l .inv .2)
 
 pub together-spec : {M : Type 1} → statement M
 together-spec =

@@ -42,7 +42,8 @@ returns c =
     let b = code .before in
     let a = b .before in
     let op = a .before in
-    made (op .byte .ensures) (a .byte2 .ensures) (b .byte3 .ensures) (code .byte4 .ensures) (running .byte5 .ensures) (released .byte6 .ensures) (c .value-of .ensures)
+    made (op .byte .ensures) (a .byte2 .ensures) (b .byte3 .ensures) (code .byte4 .ensures) (running .byte5 .ensures) (released .byte6 .ensures)
+    (c .value-of .ensures)
 
 pub record-of-spec : {M : Type 1} → statement M
 record-of-spec =

@@ -1,7 +1,7 @@
 -- `report::put_answer` meets its contract: one text behind another. Assumes nothing.
 use borrow.Author.Needs.{needs}
 use Rattle.report.proofs.Puts.{then}
-use Rattle.report.specs.Report.{answer-text}
+use Rattle.report_text.specs.Report.{answer-text}
 use Rattle.report.proofs.put_answer.Statement.{statement}
 use Rattle.report.proofs.put_answer.Tie as tie
 
@@ -28,7 +28,11 @@ same-length c = search needs
 
 returns : tie.Need-returns
 unfolding answer-text
-returns c = then (then (c .before .before .before .before .before .before .before .before .before .before .before .before .put-small .ensures) (c .before .before .before .before .before .before .before .put-small2 .ensures)) (c .before .before .put-small3 .ensures)
+returns c =
+    let at-small3 = c .before .before in
+    let at-small2 = at-small3 .before .before .before .before .before in
+    let at-small = at-small2 .before .before .before .before .before in
+    then (then (at-small .put-small .ensures) (at-small2 .put-small2 .ensures)) (at-small3 .put-small3 .ensures)
 
 pub put-answer-spec : {M : Type 1} → statement M
 put-answer-spec =

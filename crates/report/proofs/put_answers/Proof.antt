@@ -1,7 +1,7 @@
 -- `report::put_answers` meets its contract: one text behind another. Assumes nothing.
 use borrow.Author.Needs.{needs}
 use Rattle.report.proofs.Puts.{then}
-use Rattle.report.specs.Report.{answers-text}
+use Rattle.report_text.specs.Report.{answers-text}
 use Rattle.report.proofs.put_answers.Statement.{statement}
 use Rattle.report.proofs.put_answers.Tie as tie
 
@@ -28,7 +28,12 @@ same-length c = search needs
 
 returns : tie.Need-returns
 unfolding answers-text
-returns c = then (then (then (c .before .before .before .before .before .before .before .before .before .before .before .before .before .before .before .put .ensures) (c .before .before .before .before .before .before .before .before .before .before .before .put-answer .ensures)) (c .before .before .before .before .before .before .put2 .ensures)) (c .before .before .put-answer2 .ensures)
+returns c =
+    let at-answer2 = c .before .before in
+    let at-text2 = at-answer2 .before .before .before .before in
+    let at-answer = at-text2 .before .before .before .before .before in
+    let at-text = at-answer .before .before .before .before in
+    then (then (then (at-text .put .ensures) (at-answer .put-answer .ensures)) (at-text2 .put2 .ensures)) (at-answer2 .put-answer2 .ensures)
 
 pub put-answers-spec : {M : Type 1} → statement M
 put-answers-spec =

@@ -1,7 +1,7 @@
 -- `report::put_command` meets its contract: one text behind another. Assumes nothing.
 use borrow.Author.Needs.{needs}
 use Rattle.report.proofs.Puts.{then}
-use Rattle.report.specs.Report.{command-text}
+use Rattle.report_text.specs.Report.{command-text}
 use Rattle.report.proofs.put_command.Statement.{statement}
 use Rattle.report.proofs.put_command.Tie as tie
 
@@ -43,7 +43,15 @@ same-length c = search needs
 
 returns : tie.Need-returns
 unfolding command-text
-returns c = then (then (then (then (then (c .before .before .before .before .before .before .before .before .before .before .before .before .before .before .before .before .before .before .before .before .before .before .before .before .before .before .before .put-line .ensures) (c .before .before .before .before .before .before .before .before .before .before .before .before .before .before .before .before .before .before .before .before .before .before .put-small .ensures)) (c .before .before .before .before .before .before .before .before .before .before .before .before .before .before .before .before .before .put-small2 .ensures)) (c .before .before .before .before .before .before .before .before .before .before .before .before .put-small3 .ensures)) (c .before .before .before .before .before .before .before .put-named .ensures)) (c .before .before .put .ensures)
+returns c =
+    let at-text = c .before .before in
+    let at-named = at-text .before .before .before .before .before in
+    let at-small3 = at-named .before .before .before .before .before in
+    let at-small2 = at-small3 .before .before .before .before .before in
+    let at-small = at-small2 .before .before .before .before .before in
+    let at-line = at-small .before .before .before .before .before in
+    then (then (then (then (then (at-line .put-line .ensures) (at-small .put-small .ensures)) (at-small2 .put-small2 .ensures))
+    (at-small3 .put-small3 .ensures)) (at-named .put-named .ensures)) (at-text .put .ensures)
 
 pub put-command-spec : {M : Type 1} → statement M
 put-command-spec =

@@ -1,7 +1,7 @@
 -- `report::put_difference` meets its contract: one text behind another. Assumes nothing.
 use borrow.Author.Needs.{needs}
 use Rattle.report.proofs.Puts.{then}
-use Rattle.report.specs.Report.{difference-text}
+use Rattle.report_text.specs.Report.{difference-text}
 use Rattle.report.proofs.put_difference.Statement.{statement}
 use Rattle.report.proofs.put_difference.Tie as tie
 
@@ -11,8 +11,8 @@ slice-aggregate-put c = search needs
 put-requires : tie.Need-put-requires
 put-requires c κs = search needs
 
-place-requires : tie.Need-place-requires
-place-requires c κs = search needs
+place-of-requires : tie.Need-place-of-requires
+place-of-requires c κs = search needs
 
 put-where-requires : tie.Need-put-where-requires
 put-where-requires c κs = search needs
@@ -34,7 +34,15 @@ same-length c = search needs
 
 returns : tie.Need-returns
 unfolding difference-text
-returns c = then (then (then (then (c .before .before .before .before .before .before .before .before .before .before .before .before .before .before .before .before .before .before .before .before .put .ensures) (rw (c .before .before .before .before .before .before .before .before .before .before .before .before .before .before .before .before .place .ensures) at (c .before .before .before .before .before .before .before .before .before .before .before .before .before .before .before .put-where .ensures))) (c .before .before .before .before .before .before .before .before .before .before .put2 .ensures)) (c .before .before .before .before .before .before .put-command .ensures)) (c .before .before .put-answers .ensures)
+returns c =
+    let at-answers = c .before .before in
+    let at-command = at-answers .before .before .before .before in
+    let at-text2 = at-command .before .before .before .before in
+    let at-where = at-text2 .before .before .before .before .before in
+    let at-place-of = at-where .before in
+    let at-text = at-place-of .before .before .before .before in
+    then (then (then (then (at-text .put .ensures) (rw (at-place-of .place-of .ensures) at (at-where .put-where .ensures))) (at-text2 .put2 .ensures))
+    (at-command .put-command .ensures)) (at-answers .put-answers .ensures)
 
 pub put-difference-spec : {M : Type 1} → statement M
 put-difference-spec =
@@ -42,7 +50,7 @@ put-difference-spec =
     (tie.spec
     slice-aggregate-put
     put-requires
-    place-requires
+    place-of-requires
     put-where-requires
     slice-aggregate-put-2
     put-requires-2

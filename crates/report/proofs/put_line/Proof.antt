@@ -37,7 +37,18 @@ same-length c = search needs
 
 returns : tie.Need-returns
 unfolding line-of
-returns c = then (c .before .before .before .before .before .before .before .before .before .before .before .before .before .before .before .before .before .before .before .put-word .ensures) (then (rw (c .before .before .before .before .before .before .before .before .before .before .before .before .before .before .before .takes-a .ensures) at (c .before .before .before .before .before .before .before .before .before .before .before .before .before .put-operand .ensures)) (then (rw (c .before .before .before .before .before .before .before .before .before .takes-b .ensures) at (c .before .before .before .before .before .before .before .put-operand2 .ensures)) (rw (c .before .before .before .takes-value .ensures) at (c .before .before .put-operand3 .ensures))))
+returns c =
+    let at-operand3 = c .before .before in
+    let at-takes-value = at-operand3 .before in
+    let at-operand2 = at-takes-value .before .before .before .before in
+    let at-takes-b = at-operand2 .before .before in
+    let at-operand = at-takes-b .before .before .before .before in
+    let at-takes-a = at-operand .before .before in
+    let at-word = at-takes-a .before .before .before .before in
+    then (at-word .put-word .ensures)
+    (then (rw (at-takes-a .takes-a .ensures) at (at-operand .put-operand .ensures))
+    (then (rw (at-takes-b .takes-b .ensures) at (at-operand2 .put-operand2 .ensures))
+    (rw (at-takes-value .takes-value .ensures) at (at-operand3 .put-operand3 .ensures))))
 
 pub put-line-spec : {M : Type 1} → statement M
 put-line-spec =

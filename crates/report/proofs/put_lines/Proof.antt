@@ -2,7 +2,7 @@
 use native.Mathlib.Omega.{arith}
 use borrow.Author.Needs.{needs}
 use Rattle.report.proofs.Puts.{then, wider}
-use Rattle.report.specs.Report.{report-text, report-room}
+use Rattle.report_text.specs.Report.{report-text, report-room}
 use Rattle.report.proofs.put_lines.Statement.{statement}
 use Rattle.report.proofs.put_lines.Tie as tie
 
@@ -32,7 +32,13 @@ same-length c = search needs
 
 returns : tie.Need-returns
 unfolding report-text
-returns c = wider report-room (omega arith) (then (then (then (c .before .before .before .before .before .before .before .before .before .before .before .before .before .before .before .before .put-named .ensures) (c .before .before .before .before .before .before .before .before .before .before .before .put .ensures)) (c .before .before .before .before .before .before .before .put-verdict .ensures)) (c .before .before .put2 .ensures))
+returns c =
+    let at-text2 = c .before .before in
+    let at-verdict = at-text2 .before .before .before .before .before in
+    let at-text = at-verdict .before .before .before .before in
+    let at-named = at-text .before .before .before .before .before in
+    wider report-room (omega arith)
+    (then (then (then (at-named .put-named .ensures) (at-text .put .ensures)) (at-verdict .put-verdict .ensures)) (at-text2 .put2 .ensures))
 
 pub put-lines-spec : {M : Type 1} → statement M
 put-lines-spec =

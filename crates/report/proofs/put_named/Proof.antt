@@ -16,7 +16,11 @@ same-length : tie.Need-same-length
 same-length c = search needs
 
 returns : tie.Need-returns
-returns c = then (c .before .before .before .before .before .before .put .ensures) (stands (omega arith) (decimal-most (c .before .before .before .before .before .before .before .before .before .before .args .n)) (c .before .before .put-decimal .ensures))
+returns c =
+    let at-decimal = c .before .before in
+    let at-text = at-decimal .before .before .before .before in
+    let start = at-text .before .before .before .before in
+    then (at-text .put .ensures) (stands (omega arith) (decimal-most (start .args .n)) (at-decimal .put-decimal .ensures))
 
 pub put-named-spec : {M : Type 1} → statement M
 put-named-spec = tie.close (tie.spec put-requires put-decimal-requires same-length returns)

@@ -1,7 +1,7 @@
 -- `report::put_refusal` meets its contract: one text behind another. Assumes nothing.
 use borrow.Author.Needs.{needs}
 use Rattle.report.proofs.Puts.{then}
-use Rattle.report.specs.Report.{verdict-text}
+use Rattle.report_text.specs.Report.{verdict-text}
 use Rattle.report.proofs.put_refusal.Statement.{statement}
 use Rattle.report.proofs.put_refusal.Tie as tie
 
@@ -19,7 +19,10 @@ same-length c = search needs
 
 returns : tie.Need-returns
 unfolding verdict-text
-returns c = then (c .before .before .before .before .before .before .put-small .ensures) (c .before .before .put-where .ensures)
+returns c =
+    let at-where = c .before .before in
+    let at-small = at-where .before .before .before .before in
+    then (at-small .put-small .ensures) (at-where .put-where .ensures)
 
 pub put-refusal-spec : {M : Type 1} → statement M
 put-refusal-spec =

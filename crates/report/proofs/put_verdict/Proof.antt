@@ -2,7 +2,7 @@
 use native.Mathlib.Omega.{arith}
 use borrow.Author.Needs.{needs}
 use Rattle.report.proofs.Puts.{then, wider}
-use Rattle.report.specs.Report.{verdict-text}
+use Rattle.report_text.specs.Report.{verdict-text}
 use Rattle.report.proofs.put_verdict.Statement.{statement}
 use Rattle.report.proofs.put_verdict.Tie as tie
 
@@ -38,7 +38,11 @@ same-length c = search needs
 
 returns : tie.Need-returns
 unfolding verdict-text
-returns c = rw (c .before .before .before .before .before .before .before .before .before .before .before .v .given .1) (wider 428 (omega arith) (then (c .before .before .before .before .before .before .before .put-named .ensures) (c .before .before .put .ensures)))
+returns c =
+    let at-text = c .before .before in
+    let at-named = at-text .before .before .before .before .before in
+    let at-v = at-named .before .before .before .before in
+    rw (at-v .v .given .1) (wider 428 (omega arith) (then (at-named .put-named .ensures) (at-text .put .ensures)))
 
 same-length-2 : tie.Need-same-length-2
 same-length-2 c = search needs
@@ -52,7 +56,10 @@ same-length-3 c = search needs
 
 returns-3 : tie.Need-returns-3
 unfolding verdict-text
-returns-3 c = rw (c .before .before .before .before .before .v3 .given .1) (wider 428 (omega arith) (c .before .before .put-refusal .ensures))
+returns-3 c =
+    let at-refusal = c .before .before in
+    let at-v3 = at-refusal .before .before .before in
+    rw (at-v3 .v3 .given .1) (wider 428 (omega arith) (at-refusal .put-refusal .ensures))
 
 pub put-verdict-spec : {M : Type 1} → statement M
 put-verdict-spec =

@@ -1,7 +1,7 @@
 -- `report::put_where` meets its contract: one text behind another. Assumes nothing.
 use borrow.Author.Needs.{needs}
 use Rattle.report.proofs.Puts.{then}
-use Rattle.report.specs.Report.{stands-at}
+use Rattle.report_text.specs.Report.{stands-at}
 use Rattle.report.proofs.put_where.Statement.{statement}
 use Rattle.report.proofs.put_where.Tie as tie
 
@@ -22,7 +22,10 @@ same-length c = search needs
 
 returns : tie.Need-returns
 unfolding stands-at
-returns c = then (c .before .before .before .before .before .before .before .put-named .ensures) (c .before .before .put-named2 .ensures)
+returns c =
+    let at-named2 = c .before .before in
+    let at-named = at-named2 .before .before .before .before .before in
+    then (at-named .put-named .ensures) (at-named2 .put-named2 .ensures)
 
 pub put-where-spec : {M : Type 1} → statement M
 put-where-spec =

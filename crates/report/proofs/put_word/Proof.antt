@@ -23,7 +23,9 @@ same-length : tie.Need-same-length
 same-length c = search needs
 
 returns : tie.Need-returns
-returns c = let w = c .before .before .before .before .before .before .word-of in rw (w .ensures .0) at (wider 7 (omega (arith, length-take-le (w .result .1) (w .result .0) (omega arith))) (c .before .before .put .ensures))
+returns c =
+    let w = c .before .before .before .before .before .before .word-of in
+    rw (w .ensures .0) at (wider 7 (omega (arith, length-take-le (w .result .1) (w .result .0) (omega arith))) (c .before .before .put .ensures))
 
 pub put-word-spec : {M : Type 1} → statement M
 put-word-spec =

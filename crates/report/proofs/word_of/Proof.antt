@@ -39,7 +39,16 @@ returns-11 : tie.Need-returns-11
 returns-11 c = (rw (first-word (c .before .before .before .before .args .op) (c .before .before .if1 .taken)), omega arith, refl)
 
 returns-12 : tie.Need-returns-12
-returns-12 c = (no-word (c .before .before .before .before .args .op) (c .before .before .if1 .left) (c .before .before .before .match .rest .0 .0 .0 .0 .0 .0 .0 .0 .0 .1) (c .before .before .before .match .rest .0 .0 .0 .0 .0 .0 .0 .0 .1) (c .before .before .before .match .rest .0 .0 .0 .0 .0 .0 .0 .1) (c .before .before .before .match .rest .0 .0 .0 .0 .0 .0 .1) (c .before .before .before .match .rest .0 .0 .0 .0 .0 .1) (c .before .before .before .match .rest .0 .0 .0 .0 .1) (c .before .before .before .match .rest .0 .0 .0 .1) (c .before .before .before .match .rest .0 .0 .1) (c .before .before .before .match .rest .0 .1) (c .before .before .before .match .rest .1), omega arith, refl)
+returns-12 c = (
+  no-word (c .before .before .before .before .args .op) (c .before .before .if1 .left)
+      (c .before .before .before .match .rest .0 .0 .0 .0 .0 .0 .0 .0 .0 .1) (c .before .before .before .match .rest .0 .0 .0 .0 .0 .0 .0 .0 .1)
+      (c .before .before .before .match .rest .0 .0 .0 .0 .0 .0 .0 .1) (c .before .before .before .match .rest .0 .0 .0 .0 .0 .0 .1)
+      (c .before .before .before .match .rest .0 .0 .0 .0 .0 .1) (c .before .before .before .match .rest .0 .0 .0 .0 .1)
+      (c .before .before .before .match .rest .0 .0 .0 .1) (c .before .before .before .match .rest .0 .0 .1) (c .before .before .before .match .rest .0 .1)
+      (c .before .before .before .match .rest .1),
+  omega arith,
+  refl,
+)
 
 pub word-of-spec : {M : Type 1} → statement M
 word-of-spec =

@@ -40,7 +40,8 @@ returns-2 c =
     let mark = fault .before in
     let e = number-so (a .at) (a .p .now) (c .before .choose .ensures) (mark .is-marked .ensures) (fault .fault .ensures) (mark .before .record-of .ensures) in
     let z : c .before .choose .result ≡ 0 = omega arith in
-    ap (λ (r : Record). Found r (a .at + 16)) (c .before .before .before .before .record-of .ensures) ∙ judged-is (a .at) (a .p .now) (c .before .choose .result) e z
+    ap (λ (r : Record). Found r (a .at + 16)) (c .before .before .before .before .record-of .ensures)
+    ∙ judged-is (a .at) (a .p .now) (c .before .choose .result) e z
 
 pub judge-spec : {M : Type 1} → statement M
 judge-spec =

@@ -52,7 +52,8 @@ returns c =
     let a = c .before .before .args in
     let all : l .i ≡ 16 = omega arith in
     let long : length (a .t2) ≡ 16 = omega arith in
-    l .inv .2 ∙ ap (λ (n : ℕ). take n (a .t2) ++ drop n (a .out .now)) all ∙ ap (λ (x : List ℕ). x ++ drop 16 (a .out .now)) (take-all 16 (a .t2) (le-of-eq long))
+    l .inv .2 ∙ ap (λ (n : ℕ). take n (a .t2) ++ drop n (a .out .now)) all
+    ∙ ap (λ (x : List ℕ). x ++ drop 16 (a .out .now)) (take-all 16 (a .t2) (le-of-eq long))
 
 pub put-spec : {M : Type 1} → statement M
 put-spec =

@@ -21,7 +21,14 @@ choose-requires-3 c κs = search needs
 
 returns : tie.Need-returns
 unfolding writeCode
-returns c = rw (c .choose3 .ensures, c .before .choose2 .ensures, c .before .before .choose .ensures, c .before .before .before .lacks-room .ensures, c .before .before .before .before .fault .ensures)
+returns c =
+    rw (
+      c .choose3 .ensures,
+      c .before .choose2 .ensures,
+      c .before .before .choose .ensures,
+      c .before .before .before .lacks-room .ensures,
+      c .before .before .before .before .fault .ensures,
+    )
 
 pub write-code-spec : {M : Type 1} → statement M
 write-code-spec =

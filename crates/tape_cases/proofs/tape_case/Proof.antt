@@ -54,21 +54,21 @@ use denote.Triple.Entry.{onEntry}
 use denote.Triple.Spec.{Meets, tripleOf}
 use denote.Triple.Table.{entered, cited}
 use denote.Triple.Walked.{Stays, stay-none-slice, walkOf, goes-none-slice, Walks, ends-at, walked, walk-meets}
-use Rattle.tape.specs.Read.{Opened, Next as IsNext}
-use Rattle.tape.specs.declared.Reader.{Reader}
-use Rattle.tape.specs.declared.Part.{Part}
-use Rattle.tape.proofs.Reader as R
-use Rattle.tape.proofs.Reader.Laws as R′
-use Rattle.tape.proofs.Part as G
-use Rattle.tape.proofs.Part.Laws as G′
-use Rattle.tape.proofs.open as opened
-use Rattle.tape.proofs.open.Symbol as open-def
-use Rattle.tape.proofs.open.Symbol.{name as #tape·open}
-use Rattle.tape.proofs.open.Met as open-thm
-use Rattle.tape.proofs.next as next
-use Rattle.tape.proofs.next.Symbol as next-def
-use Rattle.tape.proofs.next.Symbol.{name as #tape·next}
-use Rattle.tape.proofs.next.Met as next-thm
+use Rattle.tape_reader.specs.Reader.{Opened, Next as IsNext}
+use Rattle.tape_reader.specs.declared.Reader.{Reader}
+use Rattle.tape_reader.specs.declared.Part.{Part}
+use Rattle.tape_reader.proofs.Reader as R
+use Rattle.tape_reader.proofs.Reader.Laws as R′
+use Rattle.tape_reader.proofs.Part as G
+use Rattle.tape_reader.proofs.Part.Laws as G′
+use Rattle.tape_reader.proofs.open as opened
+use Rattle.tape_reader.proofs.open.Symbol as open-def
+use Rattle.tape_reader.proofs.open.Symbol.{name as #tape-reader·open}
+use Rattle.tape_reader.proofs.open.Met as open-thm
+use Rattle.tape_reader.proofs.next as next
+use Rattle.tape_reader.proofs.next.Symbol as next-def
+use Rattle.tape_reader.proofs.next.Symbol.{name as #tape-reader·next}
+use Rattle.tape_reader.proofs.next.Met as next-thm
 use Rattle.tape_cases.proofs.told as told
 use Rattle.tape_cases.proofs.told.Symbol as told-def
 use Rattle.tape_cases.proofs.told.Symbol.{name as #tape-cases·told}
@@ -232,7 +232,7 @@ module _ {M : Type 1} (𝓤 : URA M) (H : Heap 𝓤) (A : Atoms 𝓤) (W : Given
   Nearer-wf : WellFounded Nearer
   Nearer-wf = InvImage·wf (λ (i : Stand). i .left) (Nat·lt-wfRel .wf)
 
-  module _ (𝓣 : Tables 𝓤 H) (fm : FmC 𝓤 H (W .laws) (𝓣 .C)) (known-next : Triple 𝓤 (𝓣 .C #tape·next) (Next 𝓤 H A at-mem run)) (known-told : Triple 𝓤
+  module _ (𝓣 : Tables 𝓤 H) (fm : FmC 𝓤 H (W .laws) (𝓣 .C)) (known-next : Triple 𝓤 (𝓣 .C #tape-reader·next) (Next 𝓤 H A at-mem run)) (known-told : Triple 𝓤
       (𝓣 .C #tape-cases·told) (Told 𝓤 H A at-mem run))
       (l₀ l₁ l₂ l₃ l₄ l₅ l₆ l₇ l₈ l₉ l₁₀ l₁₁ : ℕ) where
     abbrev C : Calls 𝓤 H
@@ -270,7 +270,7 @@ module _ {M : Type 1} (𝓤 : URA M) (H : Heap 𝓤) (A : Atoms 𝓤) (W : Given
 
     -- the turn behind its test
     abbrev more : Code
-    more = seq (assign (place 4 []) (rvOpd (copy (place 2 (field 1 ∷ []))))) (seq (assign (place 8 []) (addrOf (place 2 []))) (seq (call #tape·next (copy
+    more = seq (assign (place 4 []) (rvOpd (copy (place 2 (field 1 ∷ []))))) (seq (assign (place 8 []) (addrOf (place 2 []))) (seq (call #tape-reader·next (copy
         (place 8 []) ∷ []) (place 5 []))
         (seq (assign (place 9 []) (rvOpd (copy (place 5 (field 0 ∷ []))))) (seq (assign (place 10 []) (rvOpd (copy (place 5 (field 1 ∷ []))))) (seq
         (assign (place 11 []) (rvOpd (copy (place 2 (field 1 ∷ [])))))
@@ -307,7 +307,7 @@ module _ {M : Type 1} (𝓤 : URA M) (H : Heap 𝓤) (A : Atoms 𝓤) (W : Given
         ) (lent l₂ a δ h) tt p)))) (id⊢ 𝓤 _) $ await ! tt $ pick ! (λ p.
         split ! $ move ! (1 ∷ []) $ use1 W (some (λ (ws : Reader × Unit {0}). ‵ (lasts next.ended (a ∷ κ, (κ, tt)) (lent l₂ a δ h) ws) ⊛ raw (fact 𝓤
         (IsNext h p (ws .0))))) (id⊢ 𝓤 _) $ pick ! (λ ws.
-        split ! $ move ! (1 ∷ []) $ heard ! (IsNext h p (ws .0)) (λ said. fsplit ! $ move ! (2 ∷ []) $ split ! $ move ! (1 ∷ []) $
+        split ! $ move ! (1 ∷ []) $ heard ! (IsNext h p (ws .0)) (λ to-rules. fsplit ! $ move ! (2 ∷ []) $ split ! $ move ! (1 ∷ []) $
         -- [what the part owns; the tokens; the last reader; …; the lender's part; the way back; what the tape owns; _11; …]
         peeks ! (P κ) (Is (P κ)) (shows 𝓤 H A (P κ)) p (u ∷ []) (λ isp.
         land ! (from ! (stop !)) (init ! 19 refl (LL.lawful (G.the-type (αᵉ κ)) (G′.the-laws (αᵉ κ)) 𝓤 H A W .typed p _ isp .0)) $
@@ -372,8 +372,8 @@ module _ {M : Type 1} (𝓤 : URA M) (H : Heap 𝓤) (A : Atoms 𝓤) (W : Given
     runs-on i = first ! $ blocks ! $ loops ! 𝓣 Nearer Nearer-wf At turns i
 
   -- ---- the MIR up to the loop
-  module _ (𝓣 : Tables 𝓤 H) (fm : FmC 𝓤 H (W .laws) (𝓣 .C)) (known-open : Triple 𝓤 (𝓣 .C #tape·open) (Open 𝓤 H A at-mem run)) (known-next : Triple 𝓤
-      (𝓣 .C #tape·next) (Next 𝓤 H A at-mem run))
+  module _ (𝓣 : Tables 𝓤 H) (fm : FmC 𝓤 H (W .laws) (𝓣 .C)) (known-open : Triple 𝓤 (𝓣 .C #tape-reader·open) (Open 𝓤 H A at-mem run)) (known-next : Triple 𝓤
+      (𝓣 .C #tape-reader·next) (Next 𝓤 H A at-mem run))
       (known-told : Triple 𝓤 (𝓣 .C #tape-cases·told) (Told 𝓤 H A at-mem run)) where
     open-said : (r : Reader) → ent 𝓤 (ensured 𝓤 H A opened.ended (opened.clauses 𝓤 H A at-mem run) (κ, tt) (s, tt) tt r) (fact 𝓤 (Opened s r))
     open-said r = exE 𝓤 _ (λ ws. snd∗ 𝓤 (sem 𝓤 H A (lasts opened.ended (κ, tt) (s, tt) ws)) (fact 𝓤 (Opened s r)))
@@ -388,7 +388,7 @@ module _ {M : Type 1} (𝓤 : URA M) (H : Heap 𝓤) (A : Atoms 𝓤) (W : Given
         calls-at ! fm (Open 𝓤 H A at-mem run) known-open to-open (and-then ! (load ! (from ! (stop !)) (look ! 22 refl)) (no-more !)) (λ u.
         use1 W (later (some (λ (r : Reader). (Token ⊛ ‵ (B κ .own r (u ∷ []))) ⊛ raw (ensured 𝓤 H A opened.ended (opened.clauses 𝓤 H A at-mem run) (κ, tt)
         (s, tt) tt r)))) (id⊢ 𝓤 _) $ await ! tt $ pick ! (λ r.
-        split ! $ move ! (1 ∷ []) $ use1 W (raw (fact 𝓤 (Opened s r))) (open-said r) $ heard ! (Opened s r) (λ said. split ! $ move ! (1 ∷ []) $
+        split ! $ move ! (1 ∷ []) $ use1 W (raw (fact 𝓤 (Opened s r))) (open-said r) $ heard ! (Opened s r) (λ to-rules. split ! $ move ! (1 ∷ []) $
         -- [what the reader owns; 'a's token; what the tape owns; _11; …]
         peeks ! (B κ) (Is (B κ)) (shows 𝓤 H A (B κ)) r (u ∷ []) (λ is.
         land ! (from ! (stop !)) (init ! 13 refl (LL.lawful (R.the-type (αᵉ κ)) (R′.the-laws (αᵉ κ)) 𝓤 H A W .typed r _ is .0)) $
@@ -401,8 +401,8 @@ module _ {M : Type 1} (𝓤 : URA M) (H : Heap 𝓤) (A : Atoms 𝓤) (W : Given
         runs-on 𝓣 fm known-next known-told l₀ l₁ l₂ l₃ l₄ l₅ l₆ l₇ l₈ l₉ l₁₀ l₁₁ (record { left = 101; small = lit< tt; reader = r })))))))))))))))))
 
 module _ {M : Type 1} (𝓤 : URA M) (H : Heap 𝓤) (A : Atoms 𝓤) (W : Given 𝓤 H A) (at-mem : Memory → SProp 𝓤) (run : Routine → Fun 𝓤) (𝓣 : Tables 𝓤 H)
-    (known-open : Triple 𝓤 (𝓣 .C #tape·open) (Open 𝓤 H A at-mem run))
-    (known-next : Triple 𝓤 (𝓣 .C #tape·next) (Next 𝓤 H A at-mem run)) (known-told : Triple 𝓤 (𝓣 .C #tape-cases·told) (Told 𝓤 H A at-mem run)) where
+    (known-open : Triple 𝓤 (𝓣 .C #tape-reader·open) (Open 𝓤 H A at-mem run))
+    (known-next : Triple 𝓤 (𝓣 .C #tape-reader·next) (Next 𝓤 H A at-mem run)) (known-told : Triple 𝓤 (𝓣 .C #tape-cases·told) (Told 𝓤 H A at-mem run)) where
   f-walks : Walks 𝓤 H A f.ended stayed (WpFn 𝓤 H (𝓣 .C) (𝓣 .Λ) code.function) (f.clauses 𝓤 H A at-mem run)
   f-walks = walked 𝓤 H A f.ended stayed (f.clauses 𝓤 H A at-mem run) (WpFn 𝓤 H (𝓣 .C) (𝓣 .Λ) code.function) (λ κs. (slice-vals, tt)) (λ κs.
       (shr-slice-tells (named 0) (κs .0) u8, tt))
@@ -419,6 +419,6 @@ tape-case-spec 𝓤 H 𝓜 𝓖 𝓡 =
     entered 𝓤 H (tripleOf 𝓤 H (𝓖 .A) f.signature (f.spec 𝓤 H (𝓖 .A) (𝓜 .mem) (𝓡 .run)))
     (tables 𝓤 H 𝓜 𝓡 code.env .C) (tables 𝓤 H 𝓜 𝓡 code.env .Λ) #tape-cases·tape-case code.function (code.unfolded 𝓤 H 𝓜 𝓡)
     (f-meets 𝓤 H (𝓖 .A) (givenOf 𝓤 H 𝓜 𝓖) (𝓜 .mem) (𝓡 .run) (tablesOf 𝓤 H 𝓜 (tables 𝓤 H 𝓜 𝓡 code.env))
-    (cited 𝓤 H (Open 𝓤 H (𝓖 .A) (𝓜 .mem) (𝓡 .run)) 𝓜 𝓡 code.env #tape·open open-def.routine code.calls-tape·open (open-thm.met 𝓤 H 𝓜 𝓖 𝓡))
-    (cited 𝓤 H (Next 𝓤 H (𝓖 .A) (𝓜 .mem) (𝓡 .run)) 𝓜 𝓡 code.env #tape·next next-def.routine code.calls-tape·next (next-thm.met 𝓤 H 𝓜 𝓖 𝓡))
+    (cited 𝓤 H (Open 𝓤 H (𝓖 .A) (𝓜 .mem) (𝓡 .run)) 𝓜 𝓡 code.env #tape-reader·open open-def.routine code.calls-tape-reader·open (open-thm.met 𝓤 H 𝓜 𝓖 𝓡))
+    (cited 𝓤 H (Next 𝓤 H (𝓖 .A) (𝓜 .mem) (𝓡 .run)) 𝓜 𝓡 code.env #tape-reader·next next-def.routine code.calls-tape-reader·next (next-thm.met 𝓤 H 𝓜 𝓖 𝓡))
     (cited 𝓤 H (Told 𝓤 H (𝓖 .A) (𝓜 .mem) (𝓡 .run)) 𝓜 𝓡 code.env #tape-cases·told told-def.routine code.calls-tape-cases·told (told-thm.met 𝓤 H 𝓜 𝓖 𝓡)))

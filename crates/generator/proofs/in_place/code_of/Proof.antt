@@ -17,8 +17,9 @@ choose-requires c κs = search needs
 
 returns : tie.Need-returns
 returns c =
-    let a = c .before .before .before .args in
-    let k = tables (a .base .now) (a .ready .now) (a .delayed .now) (a .held .now) (a .way .now) (a .until .now) (a .ceiling) (a .waiter) (a .clock) (a .started) in
+    let a = c .before .before .before .before .args in
+    let k = tables (a .base .now) (a .ready .now) (a .delayed .now) (a .held .now) (a .way .now) (a .until .now)
+    (a .ceiling) (a .waiter) (a .clock) (a .started) in
     rw (c .choose .ensures, c .before .sound .ensures, c .before .before .refusal .ensures) (sym (code-in-order k (a .seed) (a .p)))
 
 pub code-of-spec : {M : Type 1} → statement M

@@ -1,8 +1,8 @@
 -- `Judge::feed` meets its contract: a piece too short for a record is held; else the record that was begun is whole and is judged alone, and
--- then the rest of the piece (Hearing). Assumes nothing.
+-- then the rest of the piece (Bytewise). Assumes nothing.
 use mathlib.Core.Path.{_≡_, _∙_}
 use lib.ListN.{length}
-use Rattle.judging.proofs.Hearing.{feed-short, feed-whole}
+use Rattle.judging.proofs.Bytewise.{feed-short, feed-whole}
 use borrow.Author.Needs.{needs}
 use Rattle.judging.proofs.Judge.feed.Statement.{statement}
 use Rattle.judging.proofs.Judge.feed.Tie as tie

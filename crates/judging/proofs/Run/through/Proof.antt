@@ -1,6 +1,6 @@
--- `Run::through` meets its contract: the run is behind the whole records, and what is left behind them is held (Hearing). Assumes nothing.
+-- `Run::through` meets its contract: the run is behind the whole records, and what is left behind them is held (Bytewise). Assumes nothing.
 use mathlib.Core.Path.{refl}
-use Rattle.judging.proofs.Hearing.{through-rest}
+use Rattle.judging.proofs.Bytewise.{through-rest}
 use borrow.Author.Needs.{needs}
 use Rattle.judging.proofs.Run.through.Statement.{statement}
 use Rattle.judging.proofs.Run.through.Tie as tie

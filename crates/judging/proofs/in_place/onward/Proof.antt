@@ -4,7 +4,7 @@ use mathlib.Core.Path.{_≡_, ap, _∙_}
 use Rattle.kernel.specs.Step.{tables}
 use Rattle.record.proofs.Faults.{bytesFault}
 use Rattle.tape.proofs.Reading.{number-so}
-use Rattle.judging.specs.declared.Stage.the-variants.{Going}
+use Rattle.judge_record.specs.declared.Stage.the-variants.{Going}
 use Rattle.judging.specs.declared.Run.{Run}
 use Rattle.judging.specs.Pieces.{run-of, answered}
 use Rattle.judging.proofs.Exits.{onward-over, onward-refused, onward-header, onward-command, stepped}
@@ -52,25 +52,22 @@ number c =
     number-so (lent (start c) .place) (start c .args .p .now) (c .choose .ensures)
     (c .before .before .is-marked .ensures) (c .before .fault .ensures) (c .before .before .before .record-of .ensures)
 
-seed-shown-requires : tie.Need-seed-shown-requires
-seed-shown-requires c κs = search needs
-
-refused-at-requires : tie.Need-refused-at-requires
-refused-at-requires c κs = search needs
+refused-requires : tie.Need-refused-requires
+refused-requires c κs = search needs
 
 returns-2 : tie.Need-returns-2
 returns-2 c =
-    let k = c .before .before .before in
-    rw (c .refused-at .ensures, c .before .seed-shown .ensures, k .before .before .before .record-of .ensures)
-    (onward-refused (lent (start k)) (start k .args .p .now) (going k) (k .choose .result) (number k) (c .before .before .if1 .taken))
+    let k = c .before .before in
+    rw (c .refused .ensures, k .before .before .before .record-of .ensures)
+    (onward-refused (lent (start k)) (start k .args .p .now) (going k) (k .choose .result) (number k) (c .before .if1 .taken))
 
-beyond-requires : tie.Need-beyond-requires
-beyond-requires c κs = search needs
+headed-requires : tie.Need-headed-requires
+headed-requires c κs = search needs
 
 returns-3 : tie.Need-returns-3
 returns-3 c =
     let k = c .before .before .before in
-    rw (c .beyond .ensures, k .before .before .before .record-of .ensures)
+    rw (c .headed .ensures, k .before .before .before .record-of .ensures)
     (onward-header (lent (start k)) (start k .args .p .now) (going k) (k .choose .result) (number k) (omega arith) (c .before .if2 .taken))
 
 command-of-requires : tie.Need-command-of-requires
@@ -79,18 +76,23 @@ command-of-requires c κs = search needs
 step-trusting-requires : tie.Need-step-trusting-requires
 step-trusting-requires c κs = search needs
 
+kept-of-requires : tie.Need-kept-of-requires
+kept-of-requires c κs = search needs
+
 compared-requires : tie.Need-compared-requires
 compared-requires c κs = search needs
 
 returns-4 : tie.Need-returns-4
 returns-4 c =
-    let d = c .before .before .command-of in
-    let u = c .before .step-trusting .ensures in
-    let t = c .before .before .before .before .before .before .before .before .before .before .before .before .before in
+    let step = c .before .before in
+    let d = step .before .command-of in
+    let u = step .step-trusting .ensures in
+    let t = step .before .before .before .before .before .before .before .before .before .before .before .before in
     let k = t .before .before in
     let r = k .before .before .before .record-of in
     rw (c .compared .ensures)
-    (stepped (lent (start k)) (r .result) (d .result) _ _ (d .ensures) (u .0) (u .1) ∙ ap (answered (lent (start k))) (r .ensures)
+    (stepped (lent (start k)) (r .result) (d .result) _ _ _ (d .ensures) (u .0) (u .1) (c .before .kept-of .ensures)
+    ∙ ap (answered (lent (start k))) (r .ensures)
     ∙ onward-command (lent (start k)) (start k .args .p .now) (going k) (k .choose .result) (number k) (omega arith) (t .if2 .left))
 
 pub onward-spec : {M : Type 1} → statement M
@@ -104,12 +106,12 @@ onward-spec =
     is-marked-requires
     fault-requires
     choose-requires
-    seed-shown-requires
-    refused-at-requires
+    refused-requires
     returns-2
-    beyond-requires
+    headed-requires
     returns-3
     command-of-requires
     step-trusting-requires
+    kept-of-requires
     compared-requires
     returns-4)

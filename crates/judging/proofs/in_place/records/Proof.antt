@@ -7,19 +7,21 @@ use lib.ListN.{length, drop}
 use Rattle.kernel.specs.Step.{tables}
 use Rattle.judging.specs.declared.Judge.{Judge}
 use Rattle.judging.specs.Pieces.{run-of, through}
-use Rattle.judging.proofs.Hearing.{through-turn, through-end}
+use Rattle.judging.proofs.Bytewise.{through-turn, through-end}
 use borrow.Author.Needs.{needs}
 use Rattle.judging.proofs.in_place.records.Statement.{statement}
 use Rattle.judging.proofs.in_place.records.Tie as tie
 
 abbrev Inv-loop : tie.InvT-loop
-Inv-loop t9 t10 head₀ piece base₀ ready₀ delayed₀ held₀ way₀ until₀ ceiling₀ waiter₀ clock₀ started₀ at₀ head base ready delayed held way until ceiling waiter clock started at =
+Inv-loop t9 t10 head₀ piece base₀ ready₀ delayed₀ held₀ way₀ until₀ ceiling₀ waiter₀ clock₀ started₀ at₀ head base ready delayed held way until ceiling waiter
+    clock started at =
     (at ≤ length piece)
     × (through (run-of (tables base ready delayed held way until ceiling waiter clock started) head) (drop at piece)
     ≡ through (run-of (tables base₀ ready₀ delayed₀ held₀ way₀ until₀ ceiling₀ waiter₀ clock₀ started₀) head₀) piece)
 
 abbrev μ-loop : tie.MeasureT-loop
-μ-loop t9 t10 head₀ piece base₀ ready₀ delayed₀ held₀ way₀ until₀ ceiling₀ waiter₀ clock₀ started₀ at₀ head base ready delayed held way until ceiling waiter clock started at = length piece - at
+μ-loop t9 t10 head₀ piece base₀ ready₀ delayed₀ held₀ way₀ until₀ ceiling₀ waiter₀ clock₀ started₀ at₀ head base ready delayed held way until ceiling waiter
+    clock started at = length piece - at
 
 loop-holds : tie.Need-loop-holds Inv-loop μ-loop
 loop-holds c = (omega arith, refl)
@@ -51,7 +53,8 @@ loop-again c =
     let l = h .loop in
     let piece = h .before .before .args .piece .now in
     let x = run-of (tables (l .base) (l .ready) (l .delayed) (l .held) (l .way) (l .until) (l .ceiling) (l .waiter) (l .clock) (l .started)) (l .head) in
-    let o : l .at + 16 ≤ length piece = omega (arith, l .inv .0, c .before .before .before .before .before .before .before .before .before .before .before .before .loop-test .taken) in
+    let o : l .at + 16 ≤ length piece =
+    omega (arith, l .inv .0, c .before .before .before .before .before .before .before .before .before .before .before .before .loop-test .taken) in
     (o, through-turn x _ piece (l .at) (c .onward .ensures) o ∙ l .inv .1)
 
 returns : tie.Need-returns Inv-loop μ-loop

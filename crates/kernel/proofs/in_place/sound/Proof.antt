@@ -2,8 +2,8 @@
 -- the types give (`sized`). Assumes nothing.
 use mathlib.Core.Path.{_∙_}
 use Rattle.kernel.specs.declared.Kernel.{Kernel}
-use Rattle.kernel.specs.Step.{tables}
-use Rattle.kernel.proofs.Passed.{Sizes}
+use Rattle.kernel.specs.Lent.{tables}
+use Rattle.kernel.proofs.Passed.{Fits}
 use Rattle.kernel.proofs.Tested.{test-same}
 use borrow.Author.Needs.{needs}
 use Rattle.kernel.proofs.in_place.sound.Statement.{statement}
@@ -19,26 +19,29 @@ tested-requires c κs = search needs
 abbrev lent : tie.Start → Kernel
 lent c =
     let a = c .args in
-    tables (a .base .now) (a .ready .now) (a .delayed .now) (a .held .now) (a .way .now) (a .until .now) (a .ceiling) (a .waiter) (a .clock) (a .started)
+    tables (a .base .now) (a .ready .now) (a .delayed .now) (a .held .now) (a .way .now) (a .until .now)
+    (a .ceiling) (a .waiter) (a .clock) (a .started)
 
-sizes : (c : tie.After-sized) → Sizes (lent (c .before))
-sizes c =
+fits : (c : tie.After-sized) → Fits (lent (c .before))
+fits c =
     let z = c .sized .ensures in
     record {
-      base = z .0;
-      ready = z .1;
-      delayed = z .2;
-      held = z .3;
-      way = z .4;
-      until = z .5;
-      ceiling = search needs;
-      waiter = search needs;
+      sizes = record {
+        base = z .0;
+        ready = z .1;
+        delayed = z .2;
+        held = z .3;
+        way = z .4;
+        until = z .5;
+        ceiling = search needs;
+        waiter = search needs;
+      };
       clock = search needs;
       times = z .6;
     }
 
 returns : tie.Need-returns
-returns c = c .tested .ensures ∙ test-same (lent (c .before .before)) (sizes (c .before))
+returns c = c .tested .ensures ∙ test-same (lent (c .before .before)) (fits (c .before))
 
 pub sound-spec : {M : Type 1} → statement M
 sound-spec = tie.close (tie.spec sized-requires tested-requires returns)

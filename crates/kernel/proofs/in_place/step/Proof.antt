@@ -7,8 +7,9 @@ use borrow.Author.Needs.{needs}
 use Rattle.rules.specs.Machine.{Command}
 use Rattle.kernel.specs.declared.Kernel.{Kernel}
 use Rattle.kernel.specs.declared.Stepped.{Stepped}
-use Rattle.kernel.specs.Public.{said, isSound, stepOf}
-use Rattle.kernel.specs.Step.{tables, refused}
+use Rattle.kernel.specs.Public.{to-rules, isSound, stepOf}
+use Rattle.kernel.specs.Lent.{tables}
+use Rattle.kernel.specs.Step.{refused}
 use Rattle.kernel.proofs.Whole.{step-meets}
 use Rattle.kernel.proofs.in_place.step.Statement.{statement}
 use Rattle.kernel.proofs.in_place.step.Tie as tie
@@ -26,17 +27,20 @@ step-trusting-requires c κs = search needs
 abbrev lent : tie.After-row-known → Kernel
 lent c =
     let a = c .before .before .before .before .before .before .before .before .before .args in
-    tables (a .base .now) (a .ready .now) (a .delayed .now) (a .held .now) (a .way .now) (a .until .now) (a .ceiling .now) (a .waiter .now) (a .clock .now) (a .started .now)
+    tables (a .base .now) (a .ready .now) (a .delayed .now) (a .held .now) (a .way .now) (a .until .now) (a .ceiling .now) (a .waiter .now)
+    (a .clock .now) (a .started .now)
 
 abbrev asked : tie.After-row-known → Command
-asked c = said (c .before .before .before .before .before .before .before .before .before .args .c)
+asked c = to-rules (c .before .before .before .before .before .before .before .before .before .args .c)
 
 returns : tie.Need-returns
 unfolding stepOf
 returns c =
     let p = c .before .before .before in
-    let e : isSound (lent p) ≡ false = sym (c .before .before .sound .ensures) ∙ not-true _ (c .before .if1 .taken) in
-    ((let q : lent p ≡ stepOf (lent p) (asked p) .next = rw e in q), c .refused .ensures ∙ (let q : refused 1 0 ≡ stepOf (lent p) (asked p) .answer = rw e in q))
+    let e : isSound (lent p) ≡ false = sym (c .before .before .sound .ensures) ∙ not-true _ (c .before .if1 .taken) in (
+      (let q : lent p ≡ stepOf (lent p) (asked p) .next = rw e in q),
+      c .refused .ensures ∙ (let q : refused 1 0 ≡ stepOf (lent p) (asked p) .answer = rw e in q),
+    )
 
 returns-2 : tie.Need-returns-2
 returns-2 c =

@@ -1,0 +1,284 @@
+// The command that three draws choose: what the kinds weigh, the kind that the first draw chooses, and its operands.
+// The tables are lent to be read, or go by value, and all of them get an answer, whatever they hold.
+use kernel_checks::Command;
+use kernel_line::POId;
+ghost use Prim.Native.Nat.{_+_, _%_, _<_, _^_};
+ghost use mathlib.Core.Path.{_≡_};
+ghost use mathlib.Core.Bool.{cond};
+ghost use lib.Dec.{ltb};
+ghost use lib.ListN.{length, getD};
+ghost use Rattle.rules.specs.Line.{at};
+ghost use Rattle.generator_draws.specs.Menu.{sift, objects};
+ghost use Rattle.generator_menu.specs.Public.{chosenOf};
+ghost use Rattle.generator_menu.specs.Tables as tables;
+
+// ---- Numbers
+
+// As a 64-bit number, that sums of a few of these fit.
+fn wide(x: u32) -> u64
+    ensures same { λ r. ⌜ r ≡ x ⌝ }
+    ensures small { λ r. ⌜ r < 2 ^ 32 ⌝ }
+{
+    x as u64
+}
+
+// x mod n; by 0 it is x, as in specs/, so that nothing is asked of n.
+fn remainder(x: u64, n: u64) -> u64
+    ensures { λ r. ⌜ r ≡ x % n ⌝ }
+{
+    if n == 0 { x } else { x % n }
+}
+
+// A barrier.
+fn bit(x: u32) -> u8
+    ensures { λ r. ⌜ r ≡ x % 2 ⌝ }
+{
+    (x % 2) as u8
+}
+
+// ---- The eligible objects
+
+// To a runner of that base: declared, ceiling at least the base, not held.
+fn is_eligible(ceiling: [u8; 8], held: &[u8; 32], base: u8, o: u8) -> bool
+    ensures { λ r. ⌜ r ≡ tables.eligibleIn ceiling (now (held .entry)) base o ⌝ }
+{
+    let top = kernel_line::of_object(ceiling, POId(o));
+    let n = kernel_line::holders(held, POId(o));
+    !(top == 0) & (base <= top) & !(1 <= n)
+}
+
+// How many of the objects 1..7 are eligible.
+fn count_eligible(ceiling: [u8; 8], held: &[u8; 32], base: u8) -> u64
+    ensures { λ r. ⌜ r ≡ length (sift (tables.eligibleIn ceiling (now (held .entry)) base) objects) ⌝ }
+{
+    let mut n = 0u64;
+    let mut o = 1u8;
+    while o < 8 {
+        if is_eligible(ceiling, held, base, o) {
+            n += 1;
+        }
+        o += 1;
+    }
+    n
+}
+
+// The eligible object number `n`, counted from 0 upward; 0 where there are not so many.
+fn nth_eligible(ceiling: [u8; 8], held: &[u8; 32], base: u8, n: u64) -> u8
+    ensures { λ r. ⌜ r ≡ getD (sift (tables.eligibleIn ceiling (now (held .entry)) base) objects) n 0 ⌝ }
+{
+    let mut left = n;
+    let mut o = 1u8;
+    while o < 8 {
+        if is_eligible(ceiling, held, base, o) {
+            if left == 0 {
+                return o;
+            }
+            left -= 1;
+        }
+        o += 1;
+    }
+    0
+}
+
+// ---- What a draw looks at
+
+// Of the runner: it is not idle and holds nothing, or it is inside an open or an entry, and the object that it holds, 0
+// for none. Of the objects: some are eligible, the one that the second draw picks, and nobody waits there. Of the
+// clock: the span fits.
+struct Sight {
+    free: bool,
+    opened: bool,
+    entered: bool,
+    hand: u8,
+    some: bool,
+    object: u8,
+    quiet: bool,
+    room: bool,
+}
+
+// clock + span is at most 2^64-1, without a wrap.
+fn has_room(clock: u64, span: u32) -> bool
+    ensures { λ r. ⌜ r ≡ ltb (clock + span) (2 ^ 64) ⌝ }
+{
+    wide(span) <= u64::MAX - clock
+}
+
+// A way of 1 is that of an open, 2 of an entry.
+fn look(
+    base: &[u8; 32],
+    ready: &[u8; 32],
+    held: &[u8; 32],
+    way: &[u8; 32],
+    ceiling: [u8; 8],
+    waiter: [u8; 8],
+    clock: u64,
+    span: u32,
+    d2: u32,
+) -> Sight
+    ensures { λ r. ⌜ r ≡ tables.sightIn
+        (now (base .entry)) (now (ready .entry)) (now (held .entry)) (now (way .entry))
+        ceiling waiter clock span d2 ⌝ }
+{
+    let runner = kernel_ready::runner(ready);
+    let level = kernel_line::of_task(base, runner);
+    let hand = kernel_line::of_task(held, runner);
+    let how = kernel_line::of_task(way, runner);
+    let count = count_eligible(ceiling, held, level);
+    let object = nth_eligible(ceiling, held, level, remainder(wide(d2), count));
+    Sight {
+        free: !(runner.0 == 0) & (hand == 0),
+        opened: !(hand == 0) & (how == 1),
+        entered: !(hand == 0) & (how == 2),
+        hand,
+        some: !(count == 0),
+        object,
+        quiet: kernel_line::of_object(waiter, POId(object)) == 0,
+        room: has_room(clock, span),
+    }
+}
+
+// ---- The choice by weights
+
+// The weight of a kind, if it is legal.
+fn worth(legal: bool, w: u32) -> u32
+    ensures { λ r. ⌜ r ≡ cond legal w 0 ⌝ }
+{
+    if legal { w } else { 0 }
+}
+
+// What each kind weighs: its weight if it is legal, and else nothing.
+fn worths(s: Sight, w: [u32; 8]) -> [u32; 8]
+    ensures { λ r. ⌜ r ≡ tables.worthsOf s w ⌝ }
+{
+    let delay = worth(s.free & s.room, w[0]);
+    let advance = worth(s.room, w[2]);
+    let open = worth(s.free & s.some, w[3]);
+    let closep = worth(s.opened, w[4]);
+    let closef = worth(s.opened, w[5]);
+    let entry = worth(s.free & s.some, w[6]);
+    let done = worth(s.entered, w[7]);
+    [delay, w[1], advance, open, closep, closef, entry, done]
+}
+
+// S, the sum of the legal weights.
+fn sum(w: [u32; 8]) -> u64
+    ensures { λ r. ⌜ r ≡ tables.sumOf w ⌝ }
+{
+    let mut s = 0u64;
+    let mut i = 0;
+    while i < 8 {
+        s += wide(w[i]);
+        i += 1;
+    }
+    s
+}
+
+// The first whose running sum exceeds d: d less the sum before it is below its weight. 8 where there is none.
+fn kind_for(d: u64, w: [u32; 8]) -> u8
+    ensures { λ r. ⌜ r ≡ tables.indexOf d w ⌝ }
+{
+    let mut left = d;
+    let mut i = 0u8;
+    while i < 8 {
+        let j = i as usize;
+        let x = wide(w[j]);
+        if left < x {
+            return i;
+        }
+        left -= x;
+        i += 1;
+    }
+    8
+}
+
+// ---- The command
+
+// A cell of a column of the menu, 0 past its end: a column is indexed by a kind.
+fn cell(column: [u8; 8], i: u8) -> u8
+    ensures { λ r. ⌜ r ≡ at column i ⌝ }
+{
+    if i < 8 {
+        let j = i as usize;
+        column[j]
+    } else {
+        0
+    }
+}
+
+fn long_cell(column: [u64; 8], i: u8) -> u64
+    ensures { λ r. ⌜ r ≡ at column i ⌝ }
+{
+    if i < 8 {
+        let j = i as usize;
+        column[j]
+    } else {
+        0
+    }
+}
+
+// Where the span does not fit, a delay is not legal, and has no time.
+fn delay_time(clock: u64, span: u32, d2: u32) -> u64
+    ensures { λ r. ⌜ r ≡ tables.delayTime clock span d2 ⌝ }
+{
+    if has_room(clock, span) {
+        clock + wide(d2) % (wide(span) + 1)
+    } else {
+        0
+    }
+}
+
+// The ticks of an advance.
+fn ticks(span: u32, d2: u32) -> u64
+    ensures { λ r. ⌜ r ≡ 1 + d2 % span ⌝ }
+{
+    if span == 0 {
+        1 + wide(d2)
+    } else {
+        1 + wide(d2 % span)
+    }
+}
+
+// The command of kind i, by the menu's columns; no command for 8.
+fn command_for(i: u8, s: Sight, clock: u64, span: u32, d2: u32, d3: u32) -> Command
+    ensures { λ r. ⌜ r ≡ tables.commandAt s clock span d2 d3 i ⌝ }
+{
+    let barrier = bit(d3);
+    let at_entry = kernel_line::choose(s.quiet, barrier, 1);
+    let delay = delay_time(clock, span, d2);
+    let advance = ticks(span, d2);
+    let ops = [4, 5, 6, 7, 8, 9, 10, 11];
+    let firsts = [0, 0, 0, s.object, s.hand, s.hand, s.object, s.hand];
+    let seconds = [0, 0, 0, 0, barrier, 0, at_entry, barrier];
+    let values = [delay, 0, advance, 0, 0, 0, 0, 0];
+    Command {
+        op: cell(ops, i),
+        a: cell(firsts, i),
+        b: cell(seconds, i),
+        value: long_cell(values, i),
+    }
+}
+
+// The command that three draws choose: its kind by the first, its operand by the second, its barrier by the third.
+pub fn pick_command(
+    base: &[u8; 32],
+    ready: &[u8; 32],
+    held: &[u8; 32],
+    way: &[u8; 32],
+    ceiling: [u8; 8],
+    waiter: [u8; 8],
+    clock: u64,
+    span: u32,
+    weights: [u32; 8],
+    d1: u32,
+    d2: u32,
+    d3: u32,
+) -> Command
+    ensures { λ r. ⌜ r ≡ chosenOf
+        (now (base .entry)) (now (ready .entry)) (now (held .entry)) (now (way .entry))
+        ceiling waiter clock span weights d1 d2 d3 ⌝ }
+{
+    let s = look(base, ready, held, way, ceiling, waiter, clock, span, d2);
+    let w = worths(s, weights);
+    let i = kind_for(remainder(wide(d1), sum(w)), w);
+    command_for(i, s, clock, span, d2, d3)
+}

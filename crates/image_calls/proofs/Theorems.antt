@@ -1,0 +1,285 @@
+-- What is promised of images, each in plain words and then in antt. Beside each: which wrong programs it rules out, and which it leaves to
+-- another. `imageOf` and `isImage` are in specs/Layout, the calls in specs/Calls; crates/image/src says that the calls are these. Assumes nothing.
+use Prim.Native.Nat.{ℕ, zero, suc, _+_, _*_, _/_, _%_, _<_, _^_}
+use native.Mathlib.Omega.{arith}
+use native.Mathlib.Nat.{add-zero}
+use mathlib.Core.Path.{_≡_, refl, sym, ap, _∙_, subst}
+use mathlib.Core.Logic.{_≢_}
+use mathlib.Core.Bool.{Bool, true, false, cond, not, _&&_, true≢false}
+use mathlib.Core.List.{List, [], _∷_}
+use lib.ListN.{length, replicate}
+use lib.Dec.{eqb}
+use borrow.Author.Tests.{eq-eqb, ne-eqb, eqb-true}
+use Rattle.rules.specs.Machine.{Machine, Command, fresh}
+use Rattle.rules.specs.Sound.{sound}
+use Rattle.rules.specs.Refusals.{first-number}
+use Rattle.rules.specs.Run.{next, answer, run}
+use Rattle.rules.proofs.Words.{All}
+use Rattle.rules.proofs.Lists.{all-set}
+use Rattle.rules.proofs.Tests.{both-true}
+use Rattle.rules.proofs.Sounds.{tests-sound}
+use Rattle.rules.proofs.Step.{fresh-sound, run-sound}
+use Rattle.rules.proofs.Walk.{set-up}
+use Rattle.kernel.specs.declared.Kernel.{Kernel}
+use Rattle.kernel.specs.View.{view, encode, times}
+use Rattle.kernel.specs.Public.{isSound, stepOf}
+use Rattle.kernel.proofs.Round.{view-encode}
+use Rattle.kernel.proofs.Written.{stands, encode-sound, step-on, step-sound, refused-keeps}
+use Rattle.generator.specs.declared.Profile.{Profile}
+use Rattle.generator.specs.declared.Drawn.{Drawn}
+use Rattle.generator_draws.specs.Draw.{good-profile, drawn}
+use Rattle.generator.specs.Public.{profileOf, toldDrawn, refusedOf, drawnIn, drawnOf}
+use Rattle.generator_draws.proofs.Theorems.{drawn-is-fine}
+use Rattle.generator.proofs.Shipped.{code-in-order, drawn-accepted, refused-leaves, draws-39}
+use Rattle.record_kept.specs.Kept.{kept}
+use Rattle.record_kept.specs.Kept as Kept
+use Rattle.image_form.specs.Layout.{imageOf, kernelOf, clean, formed, isImage}
+use Rattle.image_calls.specs.Calls.{told, packed, stepAnswer, stepImage, freshAnswer, freshImage}
+use Rattle.image_calls.specs.Calls.{toldProfile, drawOn, packedDrawn, drawAnswer, drawSeed, drawValue, drawStepAnswer, drawStepImage}
+use Rattle.image_form.proofs.RoundTrip.{Bytes, image-size, image-back, bytes-are}
+
+-- A sound state's times are numbers of 64 bits.
+all-zero : (n : ℕ) → All (λ x. x < 2 ^ 64) (replicate n 0)
+all-zero zero = tt
+all-zero (suc n) = (omega arith, all-zero n)
+
+times-small : (l : List (ℕ × ℕ)) → All (λ e. e .0 < 2 ^ 64) l → All (λ x. x < 2 ^ 64) (times l)
+times-small [] a = all-zero 32
+times-small (e ∷ l) a = all-set (λ x. x < 2 ^ 64) (times l) (e .1) (e .0) (a .0) (times-small l (a .1))
+
+until-small : (k : Kernel) → isSound k ≡ true → All (λ x. x < 2 ^ 64) (k .until)
+unfolding encode
+until-small k e =
+    let w = stands k e in
+    subst (λ (j : Kernel). All (λ x. x < 2 ^ 64) (j .until)) (w .written) (times-small (view k .delay) (w .machine .in-time .times-fit))
+
+clock-small : (k : Kernel) → isSound k ≡ true → k .clock < 2 ^ 64
+unfolding view
+clock-small k e = stands k e .machine .in-time .clock-fits
+
+-- ## Every sound state has an image, which reads back as that state
+-- Rules out: two fields in one place, a field left out or cut, another byte order in reading than in writing, an image of another length.
+-- Leaves: bytes that no state writes, and that are taken all the same (one-image).
+pub reads-back : (k : Kernel) → isSound k ≡ true → (isImage (imageOf k) ≡ true) × (kernelOf (imageOf k) ≡ k)
+unfolding isImage formed
+reads-back k e =
+    let z = stands k e .neat .sizes in
+    let w = image-back k z (clock-small k e) (until-small k e) in
+    (rw (eq-eqb (length (imageOf k)) 512 (image-size k z), w .1, w .0, e), w .0)
+
+-- ## One image for each state: bytes that are an image are the image of the state that they hold
+-- So two images of one state are the same bytes. Rules out: a spare byte that is not looked at, a started byte of 2, a 513th byte.
+pub one-image : (s : List ℕ) → Bytes s → isImage s ≡ true → imageOf (kernelOf s) ≡ s
+unfolding isImage formed
+one-image s small e =
+    let w = both-true (formed s) (isSound (kernelOf s)) e in
+    let v = both-true (eqb (length s) 512) (clean s) (w .0) in
+    bytes-are s (eqb-true (length s) 512 (v .0)) small (v .1)
+
+pub same-bytes : (s t : List ℕ) → Bytes s → Bytes t → isImage s ≡ true → isImage t ≡ true → kernelOf s ≡ kernelOf t → s ≡ t
+same-bytes s t b c d e q = sym (one-image s b d) ∙ (ap imageOf q ∙ one-image t c e)
+
+-- ## Stepping the image is stepping the state
+-- The answer is the state's, packed, and the bytes afterwards are the image of the state after the step: of an accepted command and of a
+-- refused one, for any four numbers, however large. Rules out: a refusal that writes, an accepted step that does not, an operand that is cut.
+-- Leaves: what the step is (crates/kernel, crates/rules).
+pub steps-state : (k : Kernel) (c : Command) → isSound k ≡ true
+    → (stepAnswer (imageOf k) c ≡ packed (stepOf k c .answer)) × (stepImage (imageOf k) c ≡ imageOf (stepOf k c .next))
+unfolding stepAnswer stepImage
+steps-state k c e =
+    let w = reads-back k e in
+    (rw (w .0, w .1), rw (w .0, w .1) (go (eqb (stepOf k c .answer .code) 0) refl))
+  where
+    go : (b : Bool) → eqb (stepOf k c .answer .code) 0 ≡ b → cond b (imageOf (stepOf k c .next)) (imageOf k) ≡ imageOf (stepOf k c .next)
+    go true q = refl
+    go false q = ap imageOf (sym (refused-keeps k c (λ z. true≢false (sym (eq-eqb _ 0 z) ∙ q))))
+
+-- The same in the words of document 01's machine: the image of a sound machine is stepped to the image of the machine after the command, and the answer is
+-- what a record keeps of the rules', in one number. (That it is read off the number again: record_kept/proofs/Laws, unpacked.)
+pub steps-machine : (m : Machine) (c : Command) → sound m ≡ true
+    → (stepAnswer (imageOf (encode m)) c ≡ Kept.packed (kept (answer m c))) × (stepImage (imageOf (encode m)) c ≡ imageOf (encode (next m c)))
+steps-machine m c e =
+    let s = tests-sound m .sure e in
+    let w = steps-state (encode m) c (encode-sound m s) in
+    let q = step-on m s c in
+    (w .0 ∙ ap (λ r. packed (r .answer)) q, w .1 ∙ ap (λ r. imageOf (r .next)) q)
+
+-- what an image says of its state
+image-sound : (s : List ℕ) → isImage s ≡ true → isSound (kernelOf s) ≡ true
+unfolding isImage
+image-sound s e = both-true (formed s) (isSound (kernelOf s)) e .1
+
+-- ## An image stays an image, and so over any calls
+pub stays-image : (s : List ℕ) (c : Command) → isImage s ≡ true → isImage (stepImage s c) ≡ true
+unfolding stepImage
+stays-image s c e = go (isImage s && eqb (stepOf (kernelOf s) c .answer .code) 0)
+  where
+    state : isSound (kernelOf s) ≡ true
+    state = image-sound s e
+
+    go : (b : Bool) → isImage (cond b (imageOf (stepOf (kernelOf s) c .next)) s) ≡ true
+    go true = reads-back (stepOf (kernelOf s) c .next) (step-sound (kernelOf s) c state) .0
+    go false = e
+
+-- ## The fresh machine's image, whatever the 512 bytes held
+pub fresh-reads : (s : List ℕ) → length s ≡ 512 → (freshAnswer s ≡ 0) × (isImage (freshImage s) ≡ true) × (kernelOf (freshImage s) ≡ encode fresh)
+unfolding freshAnswer freshImage
+fresh-reads s l =
+    let w = reads-back (encode fresh) (encode-sound fresh fresh-sound) in
+    rw (eq-eqb (length s) 512 l) (refl, w .0, w .1)
+
+-- ## Drawing over an image is drawing over its state, and so over document 01's machine
+-- Rules out: a draw that looks at another state, a profile that is cut or turned round. Leaves: what a draw is (crates/generator).
+pub draws-state : (k : Kernel) (seed : ℕ) (p : Profile) → isSound k ≡ true → drawOn (imageOf k) seed p ≡ drawnOf k seed p
+unfolding drawOn
+draws-state k seed p e = let w = reads-back k e in rw (w .0, w .1)
+
+pub draws-machine : (m : Machine) (seed : ℕ) (p : Profile) → sound m ≡ true → drawOn (imageOf (encode m)) seed p ≡ toldDrawn (drawn m seed (profileOf p))
+unfolding drawnOf drawnIn
+draws-machine m seed p e =
+    let s = tests-sound m .sure e in
+    draws-state (encode m) seed p (encode-sound m s) ∙ rw (encode-sound m s, view-encode m s)
+
+-- an accepted draw is over an image, and is the generator's
+of-image : (s : List ℕ) (seed : ℕ) (p : Profile) → drawOn s seed p .code ≡ 0 → (isImage s ≡ true) × (drawOn s seed p ≡ drawnOf (kernelOf s) seed p)
+unfolding drawOn
+of-image s seed p = go (isImage s) refl
+  where
+    go : (b : Bool) → isImage s ≡ b → cond b (drawnOf (kernelOf s) seed p) (refusedOf 1 seed) .code ≡ 0
+        → (isImage s ≡ true) × (cond b (drawnOf (kernelOf s) seed p) (refusedOf 1 seed) ≡ drawnOf (kernelOf s) seed p)
+    go true q e = (q, refl)
+    go false q e = let z : _≡_ {A = ℕ} 1 0 = e in absurd (omega arith)
+
+-- A refused draw is its code and the seed that came in.
+pub left-alone : (s : List ℕ) (seed : ℕ) (p : Profile) → drawOn s seed p .code ≢ 0 → drawOn s seed p ≡ refusedOf (drawOn s seed p .code) seed
+unfolding drawOn
+left-alone s seed p = go (isImage s)
+  where
+    go : (b : Bool) → let d = cond b (drawnOf (kernelOf s) seed p) (refusedOf 1 seed) in d .code ≢ 0 → d ≡ refusedOf (d .code) seed
+    go true n = refused-leaves (kernelOf s) seed p n
+    go false n = refl
+
+-- what is drawn has an op, an object and a barrier that fit a byte
+drawn-small : (k : Kernel) (seed : ℕ) (p : Profile) → isSound k ≡ true → drawnOf k seed p .code ≡ 0
+    → let c = drawnOf k seed p .command in (c .op < 256) × (c .a < 256) × (c .b < 256)
+unfolding drawnOf drawnIn
+drawn-small k seed p s =
+    rw s
+    (λ e.
+    let f = drawn-is-fine (view k) seed (profileOf p) (tests-sound (view k) .found (stands k s .machine)) e in
+    (omega (arith, f .op .1), omega (arith, f .fits .0), omega (arith, f .fits .1)))
+
+-- codes are bytes
+code-small : (s : List ℕ) (seed : ℕ) (p : Profile) → drawOn s seed p .code < 256
+unfolding drawOn
+code-small s seed p = go (isImage s)
+  where
+    first : (a b c d : Bool) → first-number ((a, 1) ∷ (b, 17) ∷ (c, 18) ∷ (d, 2) ∷ []) < 256
+    first true b c d = omega arith
+    first false true c d = omega arith
+    first false false true d = omega arith
+    first false false false true = omega arith
+    first false false false false = omega arith
+
+    go : (b : Bool) → cond b (drawnOf (kernelOf s) seed p) (refusedOf 1 seed) .code < 256
+    go true =
+        let k = kernelOf s in
+        rw (code-in-order k seed p) (first (not (isSound k)) (eqb seed 0) (not (good-profile (profileOf p))) (not (k .started)))
+    go false = omega arith
+
+-- The answer unpacked, of operands that are bytes.
+pub unpacked-draw : (d : Drawn) → d .code < 256 → d .command .op < 256 → d .command .a < 256
+    → (packedDrawn d % 256 ≡ d .code) × (packedDrawn d / 256 % 256 ≡ d .command .op) × (packedDrawn d / 65536 % 256 ≡ d .command .a)
+    × (packedDrawn d / 16777216 ≡ d .command .b)
+unpacked-draw d c o a = (omega arith, omega arith, omega arith, omega arith)
+
+-- ## A drawn command is accepted by the step of the same image
+-- Where the draw's code is 0, the step's code is 0 for the op, a and b that its answer holds and the value that it left: whatever the bytes,
+-- the seed, the span and the weights. Rules out: operands packed in each other's place, a value that is not stored or is cut.
+-- Leaves: a draw that always says wake, or that is always refused (crates/generator).
+module _ (s : List ℕ) (seed span : ℕ) (weights : List ℕ) (value : ℕ) where
+  abbrev found : Drawn
+  found = drawOn s seed (toldProfile span weights)
+
+  code-of : drawAnswer s seed span weights % 256 ≡ found .code
+  unfolding drawAnswer
+  code-of = let small = code-small s seed (toldProfile span weights) in omega arith
+
+  -- where the draw is accepted: its parts are bytes, and are read off the answer
+  accepted-so : drawAnswer s seed span weights % 256 ≡ 0 → found .code ≡ 0
+  accepted-so e = sym code-of ∙ e
+
+  bytes-of : drawAnswer s seed span weights % 256 ≡ 0 → let c = found .command in (c .op < 256) × (c .a < 256) × (c .b < 256)
+  bytes-of e =
+      let p = toldProfile span weights in
+      let q = of-image s seed p (accepted-so e) in
+      let made : drawnOf (kernelOf s) seed p .code ≡ 0 = rw (← q .1) (accepted-so e) in
+      rw (q .1) (drawn-small (kernelOf s) seed p (image-sound s (q .0)) made)
+
+  parts-of : drawAnswer s seed span weights % 256 ≡ 0
+      → let r = packedDrawn found in let c = found .command in (found .code ≡ 0) × (r / 256 % 256 ≡ c .op) × (r / 65536 % 256 ≡ c .a) × (r / 16777216 ≡ c .b)
+  parts-of e =
+      let small = bytes-of e in
+      let u = unpacked-draw found (code-small s seed (toldProfile span weights)) (small .0) (small .1) in
+      (accepted-so e, u .1, u .2, u .3)
+
+  pub drawn-steps : drawAnswer s seed span weights % 256 ≡ 0
+      → let r = drawAnswer s seed span weights in
+      stepAnswer s (told (r / 256 % 256) (r / 65536 % 256) (r / 16777216) (drawValue s seed span weights value)) % 256 ≡ 0
+  unfolding drawAnswer drawValue stepAnswer
+  drawn-steps e =
+      let p = toldProfile span weights in
+      let w = parts-of e in
+      let q = of-image s seed p (w .0) in
+      let accepted = drawn-accepted (kernelOf s) seed p (rw (← q .1) (w .0)) in
+      rw (w .1, w .2, w .3, eq-eqb (found .code) 0 (w .0), q .0, q .1) (omega (arith, accepted))
+
+  -- ## A refused draw changes nothing: its answer is the code alone, and the seed and the value are as they were
+  pub draw-refused : drawAnswer s seed span weights % 256 ≢ 0
+      → (drawAnswer s seed span weights < 256) × (drawSeed s seed span weights ≡ seed) × (drawValue s seed span weights value ≡ value)
+  unfolding drawAnswer drawSeed drawValue
+  draw-refused n =
+      let p = toldProfile span weights in
+      let small = code-small s seed p in
+      let other : found .code ≢ 0 = λ e. n (code-of ∙ e) in
+      let q = left-alone s seed p other in
+      (omega (arith, small, ap packedDrawn q), ap (λ (d : Drawn). d .seed) q, rw (ne-eqb (found .code) 0 other))
+
+  -- ## A draw with its step is the draw, and then the step of what it drew
+  -- Its answer is the draw's + 4294967296 * that of the step for the op, a and b that the draw's answer holds and the value that it left, and the
+  -- image afterwards is that step's. A refused one answers as the draw does, and leaves the image. (The seed and the value are the draw's by contract.)
+  -- Rules out: another command stepped than is told, an image that is not the step's, a refusal that steps. Leaves: what a draw and a step are.
+  pub draw-step-is : drawAnswer s seed span weights % 256 ≡ 0
+      → let r = drawAnswer s seed span weights in let c = told (r / 256 % 256) (r / 65536 % 256) (r / 16777216) (drawValue s seed span weights value) in
+      (drawStepAnswer s seed span weights ≡ r + 4294967296 * stepAnswer s c) × (drawStepImage s seed span weights ≡ stepImage s c)
+  unfolding drawAnswer drawValue drawStepAnswer drawStepImage
+  draw-step-is e = let w = parts-of e in rw (w .1, w .2, w .3, eq-eqb (found .code) 0 (w .0)) (refl, refl)
+
+  -- The answer taken apart: its low 32 bits are the draw's answer, the rest is the step's.
+  whole-draw : drawAnswer s seed span weights % 256 ≡ 0 → drawAnswer s seed span weights < 4294967296
+  unfolding drawAnswer
+  whole-draw e = let small = bytes-of e in omega (arith, accepted-so e, small .0, small .1, small .2)
+
+  pub draw-step-apart : drawAnswer s seed span weights % 256 ≡ 0
+      → let r = drawAnswer s seed span weights in let c = told (r / 256 % 256) (r / 65536 % 256) (r / 16777216) (drawValue s seed span weights value) in
+      let n = drawStepAnswer s seed span weights in (n % 4294967296 ≡ r) × (n / 4294967296 ≡ stepAnswer s c)
+  draw-step-apart e =
+      let w = draw-step-is e in let small = whole-draw e in (omega (arith, w .0, small), omega (arith, w .0, small))
+
+  pub draw-step-refused : drawAnswer s seed span weights % 256 ≢ 0
+      → (drawStepAnswer s seed span weights ≡ drawAnswer s seed span weights) × (drawStepImage s seed span weights ≡ s)
+  unfolding drawAnswer drawStepAnswer drawStepImage
+  draw-step-refused n =
+      let other : found .code ≢ 0 = λ e. n (code-of ∙ e) in rw (ne-eqb (found .code) 0 other) (add-zero (packedDrawn found), refl)
+
+-- ## Document 01's draw
+-- `seed 1 span 100 weights 10 10 10 10 10 10 10 10` on the image behind its five set-up lines: op 4 (1024 is 256 * 4), the time 39, the third draw as the
+-- seed.
+pub draws-39-there : let s = imageOf (encode (run fresh set-up)) in let w : List ℕ = 10 ∷ 10 ∷ 10 ∷ 10 ∷ 10 ∷ 10 ∷ 10 ∷ 10 ∷ [] in
+    (drawAnswer s 1 100 w ≡ 1024) × (drawSeed s 1 100 w ≡ 2647435461) × (drawValue s 1 100 w 0 ≡ 39)
+unfolding drawAnswer drawSeed drawValue
+draws-39-there =
+    let k = encode (run fresh set-up) in
+    let q = draws-state k 1 (toldProfile 100 (10 ∷ 10 ∷ 10 ∷ 10 ∷ 10 ∷ 10 ∷ 10 ∷ 10 ∷ []))
+    (encode-sound (run fresh set-up) (run-sound set-up fresh fresh-sound)) ∙ draws-39 in
+    (ap packedDrawn q, ap (λ (d : Drawn). d .seed) q, ap (λ (d : Drawn). cond (eqb (d .code) 0) (d .command .value) 0) q)

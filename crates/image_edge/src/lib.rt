@@ -1,0 +1,191 @@
+// Between C and the model: what comes in as numbers of any size, and what goes out, in one number and in what was
+// lent.
+//
+// image_calls/specs/Calls and specs/Edge say what each function answers and leaves. No public function has a
+// `requires`.
+ghost use mathlib.Core.Path.{_≡_};
+ghost use Prim.Native.Nat.{_<_};
+ghost use Rattle.kernel.specs.Public.{to-rules};
+ghost use Rattle.kernel.specs.Step.{tables};
+ghost use Rattle.image_calls.specs.Calls.{told, fitted, fittedTask, packed, packedLeft, fittedProfile, packedDrawn};
+ghost use Rattle.image_edge.specs.Edge.{imageLeft, seedLeft, valueLeft, packedBoth};
+use generator::Drawn;
+use generator::Profile;
+use kernel::Answer;
+use kernel::Command;
+use kernel::Left;
+use kernel::TaskID;
+use record_kept::kept_of;
+
+// ---- What comes in
+
+// The command that four numbers say. One above 255 fits no byte and is never cut: such a command is refused with 4, as
+// op 0 is.
+pub fn command(op: u64, a: u64, b: u64, value: u64) -> Command
+    ensures { λ r. ⌜ to-rules r ≡ fitted (told op a b value) ⌝ }
+{
+    let none = Command {
+        op: 0,
+        a: 0,
+        b: 0,
+        value: 0,
+    };
+    if 255 < op {
+        return none;
+    }
+    if 255 < a {
+        return none;
+    }
+    if 255 < b {
+        return none;
+    }
+    Command {
+        op: op as u8,
+        a: a as u8,
+        b: b as u8,
+        value,
+    }
+}
+
+// The task of that number: one above 255 is out of range, as 0 is.
+pub fn task(t: u64) -> TaskID
+    ensures { λ r. ⌜ r .0 ≡ fittedTask t ⌝ }
+{
+    if 255 < t {
+        return TaskID(0);
+    }
+    TaskID(t as u8)
+}
+
+// The profile that a span and weights say. One that fits no 32 bits, or other than eight weights, is refused with 18,
+// as span 0 is.
+pub fn profile(span: u64, weights: &[u32]) -> Profile
+    ensures { λ r. ⌜ r ≡ fittedProfile span (now (weights .entry)) ⌝ }
+{
+    let none = Profile {
+        span: 0,
+        weights: [0; 8],
+    };
+    if 4294967295 < span {
+        return none;
+    }
+    if weights.len() != 8 {
+        return none;
+    }
+    Profile {
+        span: span as u32,
+        weights: [
+            weights[0],
+            weights[1],
+            weights[2],
+            weights[3],
+            weights[4],
+            weights[5],
+            weights[6],
+            weights[7],
+        ],
+    }
+}
+
+// ---- Answers in one number
+
+fn wide(x: u8) -> u32
+    ensures { λ r. ⌜ (r ≡ x) × (r < 256) ⌝ }
+{
+    x as u32
+}
+
+// An answer in one number: what a record keeps of it.
+fn pack(a: Answer) -> u32
+    ensures { λ r. ⌜ r ≡ packed a ⌝ }
+{
+    record_kept::pack(kept_of(a))
+}
+
+// "Wakes left": code + 256 * the count.
+pub fn pack_left(l: Left) -> u32
+    ensures { λ r. ⌜ r ≡ packedLeft l ⌝ }
+{
+    wide(l.code) + 256 * wide(l.left)
+}
+
+// A draw: code + 256 * op + 65536 * a + 16777216 * b.
+pub fn pack_drawn(d: Drawn) -> u32
+    ensures { λ r. ⌜ r ≡ packedDrawn d ⌝ }
+{
+    let c = d.command;
+    wide(d.code) + 256 * wide(c.op) + 65536 * wide(c.a) + 16777216 * wide(c.b)
+}
+
+fn wider(x: u32) -> u64
+    ensures { λ r. ⌜ (r ≡ x) × (r < 4294967296) ⌝ }
+{
+    x as u64
+}
+
+// The answers of a draw and of its step in one number: the draw's + 4294967296 * the step's. Of a refused draw it is
+// the draw's alone.
+pub fn pack_both(d: Drawn, a: Answer) -> u64
+    ensures { λ r. ⌜ r ≡ packedBoth d a ⌝ }
+{
+    let drawn = wider(pack_drawn(d));
+    let code = d.code;
+    if code != 0 {
+        return drawn;
+    }
+    drawn + 4294967296 * wider(pack(a))
+}
+
+// ---- What is left in what was lent
+
+// What a draw leaves: its seed and its command's value. A refused one leaves both as they were.
+pub fn leave(d: Drawn, seed: &mut u32, value: &mut u64)
+    ensures { λ _. ⌜ (now (seed .exit) ≡ seedLeft d (now (seed .entry)))
+        × (now (value .exit) ≡ valueLeft d (now (value .entry))) ⌝ }
+{
+    if d.code != 0 {
+        return;
+    }
+    *seed = d.seed;
+    *value = d.command.value;
+}
+
+// An accepted command's tables are laid out in the image; a refusal leaves every byte. The answer in one number.
+pub fn keep(
+    image: &mut [u8],
+    base: &[u8; 32],
+    ready: &[u8; 32],
+    delayed: &[u8; 32],
+    held: &[u8; 32],
+    way: &[u8; 32],
+    until: &[u64; 32],
+    ceiling: &[u8; 8],
+    waiter: &[u8; 8],
+    clock: u64,
+    started: bool,
+    answer: Answer,
+) -> u32
+    ensures { λ r. ⌜ (r ≡ packed answer)
+        × (now (image .exit) ≡ imageLeft (now (image .entry))
+        (tables (now (base .entry)) (now (ready .entry)) (now (delayed .entry)) (now (held .entry)) (now (way .entry))
+        (now (until .entry)) (now (ceiling .entry)) (now (waiter .entry)) clock started) answer) ⌝ }
+{
+    let r = pack(answer);
+    if answer.code != 0 {
+        return r;
+    }
+    image_layout::lay(
+        image,
+        base,
+        ready,
+        delayed,
+        held,
+        way,
+        until,
+        ceiling,
+        waiter,
+        clock,
+        started,
+    );
+    r
+}

@@ -1,0 +1,4 @@
+pub mod Words
+pub mod Theorems
+pub mod Numbers
+pub mod Worked

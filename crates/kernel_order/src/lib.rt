@@ -1,0 +1,143 @@
+// What a saved state's lines are looked at for: where each task stands, and whether a line has an end and an order. The
+// test of a saved state (crate kernel_sound) calls these. Each function is total, and no table of 32 goes into a call
+// inside a loop over 32.
+ghost use mathlib.Core.Path.{_≡_};
+ghost use lib.Dec.{leb};
+ghost use Rattle.kernel_line.specs.Tables.{zeros, no-task};
+ghost use Rattle.kernel_order.specs.Order.{ended, falls, rises, marks};
+use kernel_line::POId;
+use kernel_line::choose;
+use kernel_line::of_object;
+
+// ---- where a task stands
+
+// Where each task stands: the mark of the line or of the objects, on top of what was marked before; 9 for a task that
+// stands twice.
+pub fn mark_line(line: &[u8; 32], mark: u8, seen: [u8; 32]) -> [u8; 32]
+    ensures { λ r. ⌜ r ≡ marks no-task mark (now (line .entry)) seen ⌝ }
+{
+    let cells: &[u8] = line;
+    let mut out = seen;
+    let mut i = 0;
+    while i < 32 {
+        let x = cells[i];
+        if x == 0 {
+            return out;
+        }
+        if 32 <= x {
+            return out;
+        }
+        let j = x as usize;
+        let n = choose(out[j] == 0, mark, 9);
+        out[j] = n;
+        i += 1;
+    }
+    out
+}
+
+pub fn mark_waiting(waiter: [u8; 8], mark: u8, seen: [u8; 32]) -> [u8; 32]
+    ensures { λ r. ⌜ r ≡ marks (leb 32) mark waiter seen ⌝ }
+{
+    let mut out = seen;
+    let mut i = 0;
+    while i < 8 {
+        let x = waiter[i];
+        if 32 <= x {
+            return out;
+        }
+        let j = x as usize;
+        let n = choose(x == 0, 0, choose(out[j] == 0, mark, 9));
+        out[j] = n;
+        i += 1;
+    }
+    out
+}
+
+// ---- order
+
+// Behind a free place all are free. No exit before the end: so the compiler tests sixteen places at a time.
+pub fn is_ended(line: &[u8; 32]) -> bool
+    ensures { λ r. ⌜ r ≡ ended (now (line .entry)) ⌝ }
+{
+    let cells: &[u8] = line;
+    let mut ends = true;
+    let mut i = 0;
+    while i < 31 {
+        ends = ends & (!(cells[i] == 0) | (cells[i + 1] == 0));
+        i += 1;
+    }
+    ends
+}
+
+// All places are free.
+pub fn is_free(line: &[u8; 32]) -> bool
+    ensures { λ r. ⌜ r ≡ zeros (now (line .entry)) ⌝ }
+{
+    let cells: &[u8] = line;
+    let mut free = true;
+    let mut i = 0;
+    while i < 32 {
+        free = free & (cells[i] == 0);
+        i += 1;
+    }
+    free
+}
+
+// Tasks by active priority, none above 15.
+pub fn is_falling<'a>(
+    line: &'a [u8; 32],
+    base: &'a [u8; 32],
+    ceiling: [u8; 8],
+    held: &'a [u8; 32],
+) -> bool
+    ensures { λ r. ⌜ r ≡ falls (now (base .entry)) ceiling (now (held .entry)) 15 (now (line .entry)) ⌝ }
+{
+    let cells: &[u8] = line;
+    let mut last = 15u8;
+    let mut i = 0;
+    while i < 32 {
+        let x = cells[i];
+        if x == 0 {
+            return true;
+        }
+        if 32 <= x {
+            return false;
+        }
+        let j = x as usize;
+        let o = held[j];
+        let top = of_object(ceiling, POId(o));
+        let level = choose(o == 0, base[j], top);
+        if last < level {
+            return false;
+        }
+        last = level;
+        i += 1;
+    }
+    true
+}
+
+// Tasks by time.
+pub fn is_rising<'a>(line: &'a [u8; 32], until: &'a [u64; 32]) -> bool
+    ensures { λ r. ⌜ r ≡ rises (now (until .entry)) 0 (now (line .entry)) ⌝ }
+{
+    let cells: &[u8] = line;
+    let mut last = 0u64;
+    let mut i = 0;
+    while i < 32 {
+        let x = cells[i];
+        if x == 0 {
+            return true;
+        }
+        if 32 <= x {
+            return false;
+        }
+        let j = x as usize;
+        let time = until[j];
+        if time < last {
+            return false;
+        }
+        last = time;
+        i += 1;
+    }
+    true
+}

@@ -1,4 +1,0 @@
-pub mod Copying
-pub mod Numbers
-pub mod RoundTrip
-pub mod Single

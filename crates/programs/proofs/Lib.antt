@@ -1,4 +1,0 @@
-pub mod Draws
-pub mod Judgement
-pub mod Rooms
-pub mod Turns

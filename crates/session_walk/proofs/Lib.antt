@@ -1,0 +1,4 @@
+pub mod Closing
+pub mod Feeding
+pub mod Theorems
+pub mod Single
