@@ -1,4 +1,4 @@
-"""One reading of document 01, with request 2 of document 02, in Python: the machine, its step, and a draw. It is written from the papers alone, with lists and
+"""One reading of document 01, with requests 2 and 4 of document 02, in Python: the machine, its step, and a draw by either edition. It is written from the papers alone, with lists and
 sorting, and shares nothing with the sources under crates/. What the programs kernel_cases, generator_cases and generator_run are to print is computed by it.
 """
 
@@ -208,40 +208,55 @@ def legal_kinds(m, span):
     return (free and fits, True, fits, takes, m.way[r] == 1, m.way[r] == 1, takes, m.way[r] == 2), eligible
 
 
-def command(m, span, weights, d1, d2, d3):
-    """The command that three draws choose, of a sound started state."""
+def remainder(n, seed):
+    """Edition 1, a number below n: the remainder of one draw. The number, the seed left and the draws spent."""
+    d = draw(seed)
+    return d % n, d, 1
+
+
+def even(n, seed):
+    """Edition 2: v = draw - 1; below L, the largest multiple of n not above 4294967295, it gives v mod n, and so does the eighth draw."""
+    limit = BITS // n * n
+    for spent in range(1, 9):
+        seed = draw(seed)
+        if seed - 1 < limit:
+            break
+    return (seed - 1) % n, seed, spent
+
+
+def made(m, seed, span, weights, choose):
+    """The command drawn from a sound started state, the seed left behind and the draws spent. Kind, operand and barrier are each one choice; what is not
+    needed spends one draw."""
     legal, eligible = legal_kinds(m, span)
-    left = d1 % sum(w for w, yes in zip(weights, legal) if yes)
+    left, seed, spent = choose(sum(w for w, yes in zip(weights, legal) if yes), seed)
     for kind, (weight, yes) in enumerate(zip(weights, legal)):
         if yes:
             if left < weight:
                 break
             left -= weight
     op, a, b, value = kind + 4, 0, 0, 0
+    below = {4: span + 1, 6: span, 7: len(eligible), 10: len(eligible)}.get(op)
+    x, seed, more = choose(below, seed) if below else (0, draw(seed), 1)
+    spent += more
     if op == 4:
-        value = m.clock + d2 % (span + 1)
+        value = m.clock + x
     if op == 6:
-        value = 1 + d2 % span
+        value = 1 + x
     if op in (7, 10):
-        a = eligible[d2 % len(eligible)]
+        a = eligible[x]
     if op in (8, 9, 11):
         a = m.held[m.runner()]
+    waited = op == 10 and m.waiter[a] != 0
+    y, seed, more = choose(2, seed) if op in (8, 10, 11) and not waited else (0, draw(seed), 1)
+    spent += more
     if op in (8, 10, 11):
-        b = 1 if op == 10 and m.waiter[a] else d3 % 2
-    return op, a, b, value
+        b = 1 if waited else y
+    return (op, a, b, value), seed, spent
 
 
-def three_draws(m, seed, span, weights):
-    """The command drawn from a sound started state, and the seed left behind: three draws are made, used or not."""
-    d1 = draw(seed)
-    d2 = draw(d1)
-    d3 = draw(d2)
-    return command(m, span, weights, d1, d2, d3), d3
-
-
-def drawn(m, seed, span, weights):
-    """Code, command and the seed left behind, of any state, seed and profile."""
+def drawn(m, seed, span, weights, choose=remainder):
+    """Code, command, the seed left behind and the draws spent, of any state, seed and profile."""
     code = refusal_of_draw(m, seed, span, weights)
     if code:
-        return code, REFUSED, seed
-    return 0, *three_draws(m, seed, span, weights)
+        return code, REFUSED, seed, 0
+    return 0, *made(m, seed, span, weights, choose)

@@ -32,7 +32,7 @@ def main():
             for span in 0, 1, 1000000, 1000001:
                 for delay in 100, 101:
                     for wake in 0, 1:
-                        code, command, left = drawn(m, seed, span, (delay, wake, 10, 10, 10, 10, 10, 10))
+                        code, command, left, _ = drawn(m, seed, span, (delay, wake, 10, 10, 10, 10, 10, 10))
                         print(n, seed, span, delay, wake, code, *command, left)
 
 

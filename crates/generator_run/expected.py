@@ -4,7 +4,7 @@ import os
 import sys
 
 sys.path.insert(0, os.path.join(os.path.dirname(os.path.abspath(__file__)), '..', '..', 'tools'))
-from document01 import Machine, three_draws
+from document01 import Machine, made, remainder
 
 SPAN, WEIGHTS = 1000, (10, 30, 20, 10, 10, 10, 20, 10)
 
@@ -33,7 +33,7 @@ def main():
     print('draws running clock seed sum')
     print(0, running, m.clock, seed, total)
     for n in range(1, 100001):
-        command, seed = three_draws(m, seed, SPAN, WEIGHTS)
+        command, seed, _ = made(m, seed, SPAN, WEIGHTS, remainder)
         running, total = stepped(m, mixed(total, 0), command)
         if n % 10000 == 0:
             print(n, running, m.clock, seed, total)

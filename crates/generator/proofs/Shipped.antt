@@ -28,11 +28,11 @@ use Rattle.generator.specs.declared.Profile.{Profile}
 use Rattle.generator.specs.declared.Drawn.{Drawn}
 use Rattle.generator_draws.specs.Xorshift.{draw}
 use Rattle.generator_draws.specs.Draw as draws
-use Rattle.generator_draws.specs.Draw.{good-profile, chosen, draw-refusal, drawn}
+use Rattle.generator_draws.specs.Draw.{good-profile, refused-by, chosen, draw-refusal, drawn}
 use Rattle.generator_draws.specs.Menu.{menu}
 use Rattle.generator_menu.specs.Public.{chosenOf}
-use Rattle.generator.specs.Public.{profileOf, toldDrawn, refusedOf, madeOf, madeIn, drawnIn, drawnOf, behindDraw, unmoved, answerTo, drawsOf}
-use Rattle.generator_draws.proofs.Theorems.{drawn-is-fine, seed-left, refused-draw, seed-lives, drawn-delay}
+use Rattle.generator.specs.Public.{profileOf, toldDrawn, refusedOf, madeOf, madeIn, codeOf, drawnIn, drawnOf, behindDraw, unmoved, answerTo, drawsOf}
+use Rattle.generator_draws.proofs.Theorems.{drawn-is, drawn-is-fine, seed-left, refused-draw, seed-lives, drawn-delay}
 
 -- The two ways of a draw: of a sound state it is the draw of the machine; any other is refused with 1.
 data Tested (k : Kernel) (seed : ℕ) (p : Profile) : Type 0 where
@@ -50,18 +50,33 @@ ways k seed p = go (isSound k) refl
 pub code-same : {d e : Drawn} → d ≡ e → d .code ≡ e .code
 code-same q = ap (λ (d : Drawn). d .code) q
 
-machine-sound : (k : Kernel) → isSound k ≡ true → sound (view k) ≡ true
+pub machine-sound : (k : Kernel) → isSound k ≡ true → sound (view k) ≡ true
 machine-sound k e = tests-sound (view k) .found (stands k e .machine)
 
 -- ## The checks, in their order
 drawn-code : (m : Machine) (seed : ℕ) (p : draws.Profile) → drawn m seed p .code ≡ draw-refusal m seed p
-unfolding drawn
-drawn-code m seed p = go (eqb (draw-refusal m seed p) 0) refl _ _ refl refl
+drawn-code m seed p = ap (λ (d : draws.Drawn). d .code) (drawn-is m seed p) ∙ go (eqb (draw-refusal m seed p) 0) refl _ _ refl refl
   where
     go : (b : Bool) → eqb (draw-refusal m seed p) 0 ≡ b → (x y : draws.Drawn) → x .code ≡ 0 → y .code ≡ draw-refusal m seed p
         → cond b x y .code ≡ draw-refusal m seed p
     go true e x y f g = f ∙ sym (eqb-true _ _ e)
     go false e x y f g = g
+
+-- the checks as the code has them: 1 first, then the others
+pub checked : (k : Kernel) (seed : ℕ) (p : Profile) → cond (not (isSound k)) 1 (refused-by (k .started) seed (profileOf p)) ≡ codeOf k seed p
+unfolding draw-refusal view
+checked k seed p = go (isSound k)
+  where
+    go : (b : Bool) → cond (not b) 1 (refused-by (k .started) seed (profileOf p)) ≡ cond b (refused-by (k .started) seed (profileOf p)) 1
+    go true = refl
+    go false = refl
+
+pub code-is : (k : Kernel) (seed : ℕ) (p : Profile) → drawnOf k seed p .code ≡ codeOf k seed p
+code-is k seed p = go (ways k seed p)
+  where
+    go : Tested k seed p → drawnOf k seed p .code ≡ codeOf k seed p
+    go (tested s q) = rw (q, s) (drawn-code (view k) seed (profileOf p))
+    go (unsound s q) = rw (q, s)
 
 -- A draw: 1, 17, 18, 2, and the first that holds is answered.
 -- Rules out: 18 tested before 17; another number than 1 for a forged state.
@@ -134,17 +149,16 @@ refused-leaves k seed p n = go (ways k seed p)
 
 -- A draw that is made answers the command that its three draws choose, one after another from the seed.
 -- Rules out: a draw made twice from one seed, and a command of other draws than the three that are left behind.
-drawn-by : (m : Machine) (seed : ℕ) (p : draws.Profile) → drawn m seed p .code ≡ 0
+by-three : (m : Machine) (seed : ℕ) (p : draws.Profile) → drawn m seed p .code ≡ 0
     → drawn m seed p ≡ record { code = 0; command = chosen m p (draw seed) (draw (draw seed)) (draw (draw (draw seed))); seed = draw (draw (draw seed)) }
-unfolding drawn
-drawn-by m seed p z = rw (eq-eqb (draw-refusal m seed p) 0 (sym (drawn-code m seed p) ∙ z))
+by-three m seed p z = drawn-is m seed p ∙ rw (eq-eqb (draw-refusal m seed p) 0 (sym (drawn-code m seed p) ∙ z))
 
 pub drawn-made : (k : Kernel) (seed : ℕ) (p : Profile) → drawnOf k seed p .code ≡ 0
     → drawnOf k seed p ≡ madeOf k p (draw seed) (draw (draw seed)) (draw (draw (draw seed)))
 drawn-made k seed p e = go (ways k seed p)
   where
     go : Tested k seed p → drawnOf k seed p ≡ madeOf k p (draw seed) (draw (draw seed)) (draw (draw (draw seed)))
-    go (tested s q) = q ∙ ap toldDrawn (drawn-by (view k) seed (profileOf p) (sym (code-same q) ∙ e))
+    go (tested s q) = q ∙ ap toldDrawn (by-three (view k) seed (profileOf p) (sym (code-same q) ∙ e))
     go (unsound s q) = absurd (omega (arith, code-same q))
 
 -- The same on the tables: what is chosen looks at the machine that they show, and at no more.

@@ -15,12 +15,20 @@ use Rattle.kernel.specs.declared.Kernel.{Kernel}
 use Rattle.kernel.specs.Step.{tables}
 use Rattle.generator.specs.declared.Carried.{Carried}
 use Rattle.generator.proofs.draw
+use Rattle.generator.proofs.in_place.code_of as code-of
 use Rattle.generator.proofs.in_place.draw as in-place-draw
+use Rattle.generator.proofs.in_place.unmoved as unmoved
 use Rattle.generator.proofs.in_place.draw_and_step as draw-and-step
 
 module _ {M : Type 1} (𝓤 : URA M) (H : Heap 𝓤) (A : Atoms 𝓤) (mem : Memory → SProp 𝓤) (run : Routine → Fun 𝓤) where
   pub draw-single : OneAnswer 𝓤 draw.ended (draw.clauses 𝓤 H A mem run)
   draw-single κs a g r s d e = one 𝓤 _ _ _
+
+  pub code-of-single : OneAnswer 𝓤 code-of.ended (code-of.clauses 𝓤 H A mem run)
+  code-of-single κs a g r s d e = one 𝓤 _ _ _
+
+  pub unmoved-single : OneAnswer 𝓤 unmoved.ended (unmoved.clauses 𝓤 H A mem run)
+  unmoved-single κs a g r s d e = one 𝓤 _ _ _
 
   pub in-place-draw-single : OneAnswer 𝓤 in-place-draw.ended (in-place-draw.clauses 𝓤 H A mem run)
   in-place-draw-single κs a g r s d e = one 𝓤 _ _ _

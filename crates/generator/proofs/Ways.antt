@@ -11,17 +11,19 @@ use Rattle.kernel.specs.Step.{steppedOf}
 use Rattle.kernel.proofs.Whole.{step-meets}
 use Rattle.generator.specs.declared.Profile.{Profile}
 use Rattle.generator.specs.declared.Drawn.{Drawn}
-use Rattle.generator.specs.Public.{refusedOf, madeIn, drawnOf, behindDraw, unmoved, answerTo, carriedOf, DrawsAndSteps}
-use Rattle.generator.proofs.Shipped.{code-same, refused-leaves, drawn-made, made-read, made-sound, refused-stays, made-steps}
+use Rattle.generator.specs.Public.{refusedOf, madeIn, codeOf, drawnOf, behindDraw, unmoved, answerTo, carriedOf, DrawsAndSteps}
+use Rattle.generator.proofs.Shipped.{code-same, code-is, refused-leaves, drawn-made, made-read, made-sound, refused-stays, made-steps}
 
 module _ (k : Kernel) (seed : ℕ) (p : Profile) where
   -- A draw with a code is refused, and leaves the seed; any other is made.
-  pub refuses : (code : ℕ) (r : Drawn) → code ≡ drawnOf k seed p .code → code ≢ 0 → r ≡ refusedOf code seed → r ≡ drawnOf k seed p
-  refuses code r e n f = f ∙ ap (λ (x : ℕ). refusedOf x seed) e ∙ sym (refused-leaves k seed p (λ z. n (e ∙ z)))
+  pub refuses : (code : ℕ) (r : Drawn) → code ≡ codeOf k seed p → code ≢ 0 → r ≡ refusedOf code seed → r ≡ drawnOf k seed p
+  refuses code r e n f =
+      let g = e ∙ sym (code-is k seed p) in
+      f ∙ ap (λ (x : ℕ). refusedOf x seed) g ∙ sym (refused-leaves k seed p (λ z. n (g ∙ z)))
 
-  pub makes : (code : ℕ) (r : Drawn) → code ≡ drawnOf k seed p .code → code ≡ 0
+  pub makes : (code : ℕ) (r : Drawn) → code ≡ codeOf k seed p → code ≡ 0
       → r ≡ madeIn (k .base) (k .ready) (k .held) (k .way) (k .ceiling) (k .waiter) (k .clock) seed p → r ≡ drawnOf k seed p
-  makes code r e z f = f ∙ made-read k seed p ∙ sym (drawn-made k seed p (sym e ∙ z))
+  makes code r e z f = f ∙ made-read k seed p ∙ sym (drawn-made k seed p (code-is k seed p ∙ sym e ∙ z))
 
   -- what is drawn, and an answer to it, as the definitions have them
   whole : (x : Drawn) (a : Answer) → x ≡ drawnOf k seed p → a ≡ answerTo k x → carriedOf x a ≡ carriedOf (drawnOf k seed p) (answerTo k (drawnOf k seed p))

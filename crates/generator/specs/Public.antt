@@ -47,6 +47,10 @@ madeIn base ready held way ceiling waiter clock seed p =
 unfoldable pub drawnIn : Kernel → ℕ → Profile → Drawn
 drawnIn k seed p = toldDrawn (draw.drawn (view k) seed (profileOf p))
 
+-- A draw's checks, 1, 17, 18, 2: the number of the first that holds, 0 for none.
+abbrev pub codeOf : Kernel → ℕ → Profile → ℕ
+codeOf k seed p = cond (isSound k) (draw.draw-refusal (view k) seed (profileOf p)) 1
+
 -- A draw: 1 comes first, and a state that is not sound is answered so.
 unfoldable pub drawnOf : Kernel → ℕ → Profile → Drawn
 drawnOf k seed p = cond (isSound k) (drawnIn k seed p) (refusedOf 1 seed)

@@ -12,7 +12,7 @@ use kernel::Answer;
 use kernel::TaskID;
 
 // The number of a draw's first check that holds, in document 01's order 1, 17, 18, 2; 0 for none.
-fn code_of<'a>(
+pub fn code_of<'a>(
     base: &'a [u8; 32],
     ready: &'a [u8; 32],
     delayed: &'a [u8; 32],
@@ -26,9 +26,9 @@ fn code_of<'a>(
     seed: u32,
     p: Profile,
 ) -> u8
-    ensures { λ r. ⌜ r ≡ public.drawnOf (tables
+    ensures { λ r. ⌜ r ≡ public.codeOf (tables
         (now (base .entry)) (now (ready .entry)) (now (delayed .entry)) (now (held .entry)) (now (way .entry))
-        (now (until .entry)) ceiling waiter clock started) seed p .code ⌝ }
+        (now (until .entry)) ceiling waiter clock started) seed p ⌝ }
 {
     let weights = p.weights;
     let code = generator_checks::refusal(started, seed, p.span, weights);
@@ -126,7 +126,7 @@ pub fn draw<'a>(
 }
 
 // The answer to a refused draw: its code, who runs, and nobody released.
-fn unmoved(code: u8, running: u8) -> Answer
+pub fn unmoved(code: u8, running: u8) -> Answer
     ensures { λ r. ⌜ r ≡ public.unmoved code running ⌝ }
 {
     Answer {

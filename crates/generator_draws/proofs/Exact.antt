@@ -63,7 +63,7 @@ module _ (m : Machine) (s : Sound m) (on : m .started ≡ true) (span : ℕ) (fi
       rw (ne-eqb (at (m .held) (runner m)) 0 n, g .1)
 
   abbrev legal-at : ℕ → Offer → Bool
-  legal-at i k = getD (menu m span 0 0) i k .legal
+  legal-at i k = getD (menu m span) i k .legal
 
   -- delay and advance, the kinds 0 and 2, look at the span
   back : (i a b v : ℕ) (k : Offer) → i < 8 → ((i ≡ 0) ⊎ (i ≡ 2) → span-fits m span ≡ true) → refusal m (cmd (i + 4) a b v) ≡ 0 → legal-at i k ≡ true
@@ -96,7 +96,7 @@ module _ (m : Machine) (s : Sound m) (on : m .started ≡ true) (span : ℕ) (fi
   pub legal-exactly : (i : ℕ) (k : Offer) → i < 8
       → (legal-at i k ≡ true) ↔ (((i ≡ 0) ⊎ (i ≡ 2) → span-fits m span ≡ true) × ((c : Command) × (c .op ≡ i + 4) × (refusal m c ≡ 0)))
   legal-exactly i k h = (
-    λ e. (spanned i k e, (let r = legal-right m s on span 0 0 fits i k h e in (getD (menu m span 0 0) i k .command, r .op, r .accepted))),
+    λ e. (spanned i k e, (let r = legal-right m s on span fits i k h e 0 0 (λ z. z) (λ z. z) in (getD (menu m span) i k .command 0 0, r .op, r .accepted))),
     λ w. back i (w .1 .0 .a) (w .1 .0 .b) (w .1 .0 .value) k h (w .0)
         (subst (λ (x : ℕ). refusal m (cmd x (w .1 .0 .a) (w .1 .0 .b) (w .1 .0 .value)) ≡ 0) (w .1 .1) (w .1 .2)),
   )

@@ -1,7 +1,6 @@
 -- Each legal kind's command is one that the machine accepts, from every sound started state. Assumes nothing.
-use Prim.Native.Nat.{ℕ, zero, suc, _+_, _%_, _≤_, _<_, _^_}
+use Prim.Native.Nat.{ℕ, zero, suc, _+_, _≤_, _<_, _^_}
 use native.Mathlib.Omega.{arith}
-use native.Mathlib.Nat.{mod-lt}
 use mathlib.Core.Path.{_≡_, refl, sym, ap, _∙_}
 use mathlib.Core.Logic.{_≢_}
 use mathlib.Core.Bool.{Bool, true, false, cond, not, _&&_, true≢false, and-false}
@@ -15,7 +14,7 @@ use Rattle.rules.specs.Refusals.{refusal}
 use Rattle.rules.proofs.Words.{All, cmd}
 use Rattle.rules.proofs.Tests.{both-true}
 use Rattle.rules.proofs.Sounds.{Sound, object-known, runner-known}
-use Rattle.generator_draws.specs.Menu.{Offer, hand, free-runner, inside, eligible, sift, eligibles, pick, span-fits, entry-barrier, menu}
+use Rattle.generator_draws.specs.Menu.{Offer, hand, free-runner, inside, eligible, sift, objects, eligibles, nth-eligible, span-fits, quiet, may-take, menu}
 
 sift-all : (f P : ℕ → Bool) (l : List ℕ) → All (λ x. P x ≡ true) l → All (λ x. (P x ≡ true) × (f x ≡ true)) (sift f l)
 sift-all f P [] k = tt
@@ -34,13 +33,17 @@ some : (l : List ℕ) → not (empty l) ≡ true → 1 ≤ length l
 some [] e = absurd (true≢false (sym e))
 some (x ∷ l) e = omega arith
 
--- a bit as a barrier, and the barrier of an entry
-bit : (d : ℕ) → leb (d % 2) 1 ≡ true
-bit d = le-leb (d % 2) 1 (omega arith)
+-- a number for what is chosen below n, where it is needed
+abbrev pub Fits : ℕ → ℕ → Type 0
+Fits n x = 1 ≤ n → x < n
 
-barrier : (d : ℕ) (b : Bool) → (leb (cond b (d % 2) 1) 1 ≡ true) × (eqb (cond b (d % 2) 1) 0 && not b ≡ false)
-barrier d true = (bit d, and-false (eqb (d % 2) 0))
-barrier d false = (refl, refl)
+-- a number below 2 as a barrier, and the barrier of an entry
+bit : (y : ℕ) → y < 2 → leb y 1 ≡ true
+bit y h = le-leb y 1 (omega arith)
+
+barrier : (y : ℕ) (b : Bool) → (1 ≤ cond b 2 0 → y < cond b 2 0) → (leb (cond b y 1) 1 ≡ true) × (eqb (cond b y 1) 0 && not b ≡ false)
+barrier y true h = (bit y (h (omega arith)), and-false (eqb y 0))
+barrier y false h = (refl, refl)
 
 module _ (m : Machine) (s : Sound m) (on : m .started ≡ true) where
   wake-accepted : refusal m (cmd 5 0 0 0) ≡ 0
@@ -66,14 +69,13 @@ module _ (m : Machine) (s : Sound m) (on : m .started ≡ true) where
     under : ltb (at (m .ceiling) o) (at (m .base) (runner m)) ≡ false
     unheld : leb 1 (count o (m .held)) ≡ false
 
-  takes : (d : ℕ) → free-runner m && not (empty (eligibles m)) ≡ true → Takes (pick m d)
-  takes d e =
+  takes : (x : ℕ) → may-take m ≡ true → (1 ≤ length (eligibles m) → x < length (eligibles m)) → Takes (nth-eligible m x)
+  takes x e h =
       let f = both-true (free-runner m) (not (empty (eligibles m))) e in
       let g = both-true (not (eqb (runner m) 0)) (eqb (hand m) 0) (f .0) in
-      let o = pick m d in
-      let k = all-inside (λ x. (within 1 7 x ≡ true) × (eligible m x ≡ true)) (eligibles m) (d % length (eligibles m))
-      (sift-all (eligible m) (within 1 7) (1 ∷ 2 ∷ 3 ∷ 4 ∷ 5 ∷ 6 ∷ 7 ∷ []) (refl, (refl, (refl, (refl, (refl, (refl, (refl, tt))))))))
-      (mod-lt d (some (eligibles m) (f .1))) in
+      let o = nth-eligible m x in
+      let seven = sift-all (eligible m) (within 1 7) objects (refl, (refl, (refl, (refl, (refl, (refl, (refl, tt))))))) in
+      let k = all-inside (λ z. (within 1 7 z ≡ true) × (eligible m z ≡ true)) (eligibles m) x seven (h (some (eligibles m) (f .1))) in
       let a = both-true (declared m o && leb (at (m .base) (runner m)) (at (m .ceiling) o)) (not (leb 1 (count o (m .held)))) (k .1) in
       let b = both-true (declared m o) (leb (at (m .base) (runner m)) (at (m .ceiling) o)) (a .0) in
       record {
@@ -139,37 +141,40 @@ module _ (m : Machine) (s : Sound m) (on : m .started ≡ true) where
   low-bit : (b : ℕ) → leb b 1 ≡ true → b < 2
   low-bit b e = let z : b ≤ 1 = leb-true _ _ e in omega arith
 
-  pub legal-right : (span d2 d3 : ℕ) → 1 ≤ span → (i : ℕ) (k : Offer) → i < 8 → getD (menu m span d2 d3) i k .legal ≡ true
-      → Right i (getD (menu m span d2 d3) i k .command)
+  pub legal-right : (span : ℕ) → 1 ≤ span → (i : ℕ) (k : Offer) → i < 8 → let o = getD (menu m span) i k in
+      o .legal ≡ true → (x y : ℕ) → Fits (o .operand) x → Fits (o .barrier x) y → Right i (o .command x y)
   unfolding menu
-  legal-right span d2 d3 h zero k l e =
+  legal-right span h zero k l e x y u v =
       let f = both-true (free-runner m) (span-fits m span) e in
       let t : m .clock + span < 2 ^ 64 = ltb-true _ _ (f .1) in
-      let r : d2 % (span + 1) < span + 1 = mod-lt d2 (omega arith) in
-      record { op = refl; accepted = delay-accepted (m .clock + d2 % (span + 1)) (omega arith) (f .0); fits = (omega arith, omega arith, omega arith) }
-  legal-right span d2 d3 h (suc zero) k l e = record { op = refl; accepted = wake-accepted; fits = (omega arith, omega arith, omega arith) }
-  legal-right span d2 d3 h (suc (suc zero)) k l e =
+      let r : x < span + 1 = u (omega arith) in
+      record { op = refl; accepted = delay-accepted (m .clock + x) (omega arith) (f .0); fits = (omega arith, omega arith, omega arith) }
+  legal-right span h (suc zero) k l e x y u v = record { op = refl; accepted = wake-accepted; fits = (omega arith, omega arith, omega arith) }
+  legal-right span h (suc (suc zero)) k l e x y u v =
       let t : m .clock + span < 2 ^ 64 = ltb-true _ _ e in
-      let r : d2 % span < span = mod-lt d2 h in
-      record { op = refl; accepted = advance-accepted (1 + d2 % span) (omega arith); fits = (omega arith, omega arith, omega arith) }
-  legal-right span d2 d3 h (suc (suc (suc zero))) k l e =
-      let t = takes d2 e in
-      record { op = refl; accepted = open-accepted (pick m d2) t; fits = (low (pick m d2) (t .in-range), omega arith, omega arith) }
-  legal-right span d2 d3 h (suc (suc (suc (suc zero)))) k l e =
+      let r : x < span = u h in
+      record { op = refl; accepted = advance-accepted (1 + x) (omega arith); fits = (omega arith, omega arith, omega arith) }
+  legal-right span h (suc (suc (suc zero))) k l e x y u v =
+      let t = takes x e u in
+      record { op = refl; accepted = open-accepted (nth-eligible m x) t; fits = (low (nth-eligible m x) (t .in-range), omega arith, omega arith) }
+  legal-right span h (suc (suc (suc (suc zero)))) k l e x y u v =
       let t = holds for-open e in
-      record { op = refl; accepted = closep-accepted (d3 % 2) (bit d3) t; fits = (low (hand m) (t .in-range), low-bit (d3 % 2) (bit d3), omega arith) }
-  legal-right span d2 d3 h (suc (suc (suc (suc (suc zero))))) k l e =
+      let b = bit y (v (omega arith)) in
+      record { op = refl; accepted = closep-accepted y b t; fits = (low (hand m) (t .in-range), low-bit y b, omega arith) }
+  legal-right span h (suc (suc (suc (suc (suc zero))))) k l e x y u v =
       let t = holds for-open e in
       record { op = refl; accepted = closef-accepted t; fits = (low (hand m) (t .in-range), omega arith, omega arith) }
-  legal-right span d2 d3 h (suc (suc (suc (suc (suc (suc zero)))))) k l e =
-      let t = takes d2 e in
-      let b = barrier d3 (empty (getD (m .queue) (pick m d2) [])) in
+  legal-right span h (suc (suc (suc (suc (suc (suc zero)))))) k l e x y u v =
+      let t = takes x e u in
+      let q = quiet m (nth-eligible m x) in
+      let b = barrier y q v in
       record {
         op = refl;
-        accepted = entry-accepted (pick m d2) (entry-barrier m (pick m d2) d3) t (b .0) (b .1);
-        fits = (low (pick m d2) (t .in-range), low-bit (entry-barrier m (pick m d2) d3) (b .0), omega arith);
+        accepted = entry-accepted (nth-eligible m x) (cond q y 1) t (b .0) (b .1);
+        fits = (low (nth-eligible m x) (t .in-range), low-bit (cond q y 1) (b .0), omega arith);
       }
-  legal-right span d2 d3 h (suc (suc (suc (suc (suc (suc (suc zero))))))) k l e =
+  legal-right span h (suc (suc (suc (suc (suc (suc (suc zero))))))) k l e x y u v =
       let t = holds for-entry e in
-      record { op = refl; accepted = done-accepted (d3 % 2) (bit d3) t; fits = (low (hand m) (t .in-range), low-bit (d3 % 2) (bit d3), omega arith) }
-  legal-right span d2 d3 h (suc (suc (suc (suc (suc (suc (suc (suc i)))))))) k l e = absurd (omega arith)
+      let b = bit y (v (omega arith)) in
+      record { op = refl; accepted = done-accepted y b t; fits = (low (hand m) (t .in-range), low-bit y b, omega arith) }
+  legal-right span h (suc (suc (suc (suc (suc (suc (suc (suc i)))))))) k l e x y u v = absurd (omega arith)

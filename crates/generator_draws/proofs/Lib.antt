@@ -1,5 +1,8 @@
 pub mod Undone
+pub mod Chooses
+pub mod Odds
 pub mod Choice
 pub mod Legal
 pub mod Exact
 pub mod Theorems
+pub mod Rows

@@ -1,3 +1,5 @@
 pub mod Xorshift
+pub mod Below
 pub mod Menu
 pub mod Draw
+pub mod Odds

@@ -15,6 +15,10 @@ use Rattle.generator_lent.specs.declared.Generator.{Generator}
 use Rattle.generator_lent.proofs.xorshift
 use Rattle.generator_lent.proofs.advance
 use Rattle.generator_lent.proofs.three_draws
+use Rattle.generator_lent.proofs.choice_from
+use Rattle.generator_lent.proofs.choice_if_needed
+use Rattle.generator_lent.proofs.choose
+use Rattle.generator_lent.specs.declared.Choice.{Choice}
 
 -- an answer and a lent generator, which is its seed
 same-pair : {X : Type 0} {r s : X} {m n : ℕ} → r ≡ s → m ≡ n → _≡_ {A = X × Generator} (r, record { seed = m }) (s, record { seed = n })
@@ -33,3 +37,12 @@ module _ {M : Type 1} (𝓤 : URA M) (H : Heap 𝓤) (A : Atoms 𝓤) (mem : Mem
 
   pub three-draws-single : OneAnswer 𝓤 three_draws.ended (three_draws.clauses 𝓤 H A mem run)
   three-draws-single κs a g r s d e = one 𝓤 _ _ _
+
+  pub choice-from-single : OneAnswer 𝓤 choice_from.ended (choice_from.clauses 𝓤 H A mem run)
+  choice-from-single κs a g r s d e = one 𝓤 _ _ _
+
+  pub choice-if-needed-single : OneAnswer 𝓤 choice_if_needed.ended (choice_if_needed.clauses 𝓤 H A mem run)
+  choice-if-needed-single κs a g r s d e = one 𝓤 _ _ _
+
+  pub choose-single : OneEnd 𝓤 choose.ended (choose.clauses 𝓤 H A mem run) (Choice × Generator) (λ κs r e. (r, now (e .0)))
+  choose-single κs a g r s d e = both 𝓤 _ _ _ same-end

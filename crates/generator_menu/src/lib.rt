@@ -1,15 +1,18 @@
-// The command that three draws choose: what the kinds weigh, the kind that the first draw chooses, and its operands.
+// The command that a draw makes, by either edition: what the kinds weigh, which kind is chosen, and its operands.
 // The tables are lent to be read, or go by value, and all of them get an answer, whatever they hold.
+use generator_lent::choice_from;
+use generator_lent::choice_if_needed;
 use kernel_checks::Command;
 use kernel_line::POId;
-ghost use Prim.Native.Nat.{_+_, _%_, _<_, _^_};
+ghost use Prim.Native.Nat.{_+_, _%_, _≤_, _<_, _^_};
 ghost use mathlib.Core.Path.{_≡_};
 ghost use mathlib.Core.Bool.{cond};
 ghost use lib.Dec.{ltb};
 ghost use lib.ListN.{length, getD};
 ghost use Rattle.rules.specs.Line.{at};
 ghost use Rattle.generator_draws.specs.Menu.{sift, objects};
-ghost use Rattle.generator_menu.specs.Public.{chosenOf};
+ghost use Rattle.generator_draws.specs.Draw.{remainder-if-needed};
+ghost use Rattle.generator_menu.specs.Public.{chosenOf, evenlyOf};
 ghost use Rattle.generator_menu.specs.Tables as tables;
 
 // ---- Numbers
@@ -29,11 +32,11 @@ fn remainder(x: u64, n: u64) -> u64
     if n == 0 { x } else { x % n }
 }
 
-// A barrier.
-fn bit(x: u32) -> u8
-    ensures { λ r. ⌜ r ≡ x % 2 ⌝ }
+// The remainder of a draw, where a number below n is needed; 0 where none is (n = 0).
+fn needed(x: u32, n: u64) -> u32
+    ensures { λ r. ⌜ r ≡ remainder-if-needed n x ⌝ }
 {
-    (x % 2) as u8
+    if n == 0 { 0 } else { (x as u64 % n) as u32 }
 }
 
 // ---- The eligible objects
@@ -82,17 +85,15 @@ fn nth_eligible(ceiling: [u8; 8], held: &[u8; 32], base: u8, n: u64) -> u8
 
 // ---- What a draw looks at
 
-// Of the runner: it is not idle and holds nothing, or it is inside an open or an entry, and the object that it holds, 0
-// for none. Of the objects: some are eligible, the one that the second draw picks, and nobody waits there. Of the
-// clock: the span fits.
+// Of the runner: it is not idle and holds nothing, or it is inside an open or an entry; the object that it holds, 0 for none; and
+// its base. Of the objects: how many are eligible. Of the clock: the span fits.
 struct Sight {
     free: bool,
     opened: bool,
     entered: bool,
     hand: u8,
-    some: bool,
-    object: u8,
-    quiet: bool,
+    level: u8,
+    count: u64,
     room: bool,
 }
 
@@ -110,29 +111,24 @@ fn look(
     held: &[u8; 32],
     way: &[u8; 32],
     ceiling: [u8; 8],
-    waiter: [u8; 8],
     clock: u64,
     span: u32,
-    d2: u32,
 ) -> Sight
     ensures { λ r. ⌜ r ≡ tables.sightIn
-        (now (base .entry)) (now (ready .entry)) (now (held .entry)) (now (way .entry))
-        ceiling waiter clock span d2 ⌝ }
+        (now (base .entry)) (now (ready .entry)) (now (held .entry)) (now (way .entry)) ceiling clock span ⌝ }
 {
     let runner = kernel_ready::runner(ready);
     let level = kernel_line::of_task(base, runner);
     let hand = kernel_line::of_task(held, runner);
     let how = kernel_line::of_task(way, runner);
     let count = count_eligible(ceiling, held, level);
-    let object = nth_eligible(ceiling, held, level, remainder(wide(d2), count));
     Sight {
         free: !(runner.0 == 0) & (hand == 0),
         opened: !(hand == 0) & (how == 1),
         entered: !(hand == 0) & (how == 2),
         hand,
-        some: !(count == 0),
-        object,
-        quiet: kernel_line::of_object(waiter, POId(object)) == 0,
+        level,
+        count,
         room: has_room(clock, span),
     }
 }
@@ -152,10 +148,11 @@ fn worths(s: Sight, w: [u32; 8]) -> [u32; 8]
 {
     let delay = worth(s.free & s.room, w[0]);
     let advance = worth(s.room, w[2]);
-    let open = worth(s.free & s.some, w[3]);
+    let some = !(s.count == 0);
+    let open = worth(s.free & some, w[3]);
     let closep = worth(s.opened, w[4]);
     let closef = worth(s.opened, w[5]);
-    let entry = worth(s.free & s.some, w[6]);
+    let entry = worth(s.free & some, w[6]);
     let done = worth(s.entered, w[7]);
     [delay, w[1], advance, open, closep, closef, entry, done]
 }
@@ -216,47 +213,77 @@ fn long_cell(column: [u64; 8], i: u8) -> u64
     }
 }
 
-// Where the span does not fit, a delay is not legal, and has no time.
-fn delay_time(clock: u64, span: u32, d2: u32) -> u64
-    ensures { λ r. ⌜ r ≡ tables.delayTime clock span d2 ⌝ }
+// Below which number the operand of kind i is chosen, 0 for one that is not needed.
+fn operand_below(i: u8, s: Sight, span: u32) -> u64
+    ensures { λ r. ⌜ r ≡ tables.operandAt s span i ⌝ }
 {
-    if has_room(clock, span) {
-        clock + wide(d2) % (wide(span) + 1)
+    let count = s.count;
+    let ticks = wide(span);
+    let times = ticks + 1;
+    let column = [times, 0, ticks, count, 0, 0, count, 0];
+    long_cell(column, i)
+}
+
+// The object that a command of kind i names: the eligible one of that number, or the one that is held; 0 for none.
+fn object_for(i: u8, s: Sight, ceiling: [u8; 8], held: &[u8; 32], x: u32) -> u8
+    ensures { λ r. ⌜ r ≡ tables.objectAt ceiling (now (held .entry)) s i x ⌝ }
+{
+    if (i == 3) | (i == 6) {
+        nth_eligible(ceiling, held, s.level, wide(x))
+    } else {
+        let hand = s.hand;
+        let column = [0, 0, 0, 0, hand, hand, 0, hand];
+        cell(column, i)
+    }
+}
+
+// Nobody waits on the object.
+fn is_quiet(waiter: [u8; 8], o: u8) -> bool
+    ensures { λ r. ⌜ r ≡ tables.quietAt waiter o ⌝ }
+{
+    kernel_line::of_object(waiter, POId(o)) == 0
+}
+
+// Below which number the barrier is chosen, 0 for one that is not needed: an entry's is 1 where the object has a waiter.
+fn barrier_below(i: u8, quiet: bool) -> u64
+    ensures { λ r. ⌜ r ≡ tables.barrierAt quiet i ⌝ }
+{
+    let entry = kernel_line::choose(quiet, 2, 0);
+    let column = [0, 0, 0, 0, 2, 0, entry, 2];
+    cell(column, i) as u64
+}
+
+// A sum that does not fit is no time: a delay is not legal there.
+fn delay_time(clock: u64, x: u32) -> u64
+    ensures { λ r. ⌜ r ≡ tables.delayTime clock x ⌝ }
+{
+    if has_room(clock, x) {
+        clock + wide(x)
     } else {
         0
     }
 }
 
-// The ticks of an advance.
-fn ticks(span: u32, d2: u32) -> u64
-    ensures { λ r. ⌜ r ≡ 1 + d2 % span ⌝ }
+// The command of kind i, by the menu's columns, of an object and the two numbers; no command for 8.
+fn command_for(i: u8, clock: u64, object: u8, quiet: bool, x: u32, y: u32) -> Command
+    ensures { λ r. ⌜ r ≡ tables.commandAt clock object quiet x y i ⌝ }
 {
-    if span == 0 {
-        1 + wide(d2)
-    } else {
-        1 + wide(d2 % span)
-    }
-}
-
-// The command of kind i, by the menu's columns; no command for 8.
-fn command_for(i: u8, s: Sight, clock: u64, span: u32, d2: u32, d3: u32) -> Command
-    ensures { λ r. ⌜ r ≡ tables.commandAt s clock span d2 d3 i ⌝ }
-{
-    let barrier = bit(d3);
-    let at_entry = kernel_line::choose(s.quiet, barrier, 1);
-    let delay = delay_time(clock, span, d2);
-    let advance = ticks(span, d2);
+    let barrier = (y % 256) as u8;
+    let at_entry = kernel_line::choose(quiet, barrier, 1);
+    let delay = delay_time(clock, x);
+    let advance = 1 + wide(x);
     let ops = [4, 5, 6, 7, 8, 9, 10, 11];
-    let firsts = [0, 0, 0, s.object, s.hand, s.hand, s.object, s.hand];
     let seconds = [0, 0, 0, 0, barrier, 0, at_entry, barrier];
     let values = [delay, 0, advance, 0, 0, 0, 0, 0];
     Command {
         op: cell(ops, i),
-        a: cell(firsts, i),
+        a: object,
         b: cell(seconds, i),
         value: long_cell(values, i),
     }
 }
+
+// ---- Edition 1
 
 // The command that three draws choose: its kind by the first, its operand by the second, its barrier by the third.
 pub fn pick_command(
@@ -277,8 +304,83 @@ pub fn pick_command(
         (now (base .entry)) (now (ready .entry)) (now (held .entry)) (now (way .entry))
         ceiling waiter clock span weights d1 d2 d3 ⌝ }
 {
-    let s = look(base, ready, held, way, ceiling, waiter, clock, span, d2);
+    let s = look(base, ready, held, way, ceiling, clock, span);
     let w = worths(s, weights);
     let i = kind_for(remainder(wide(d1), sum(w)), w);
-    command_for(i, s, clock, span, d2, d3)
+    let x = needed(d2, operand_below(i, s, span));
+    let object = object_for(i, s, ceiling, held, x);
+    let quiet = is_quiet(waiter, object);
+    let y = needed(d3, barrier_below(i, quiet));
+    command_for(i, clock, object, quiet, x, y)
+}
+
+// ---- Edition 2
+
+// What a draw of edition 2 makes: the command, the seed left behind, and the draws spent.
+pub struct Made {
+    pub command: Command,
+    pub seed: u32,
+    pub spent: u8,
+}
+
+// Behind the choice of kind i, which left that seed and spent so many draws: operand and barrier are each one even choice; what
+// is not needed spends one draw.
+fn finish(
+    i: u8,
+    s: Sight,
+    held: &[u8; 32],
+    ceiling: [u8; 8],
+    waiter: [u8; 8],
+    clock: u64,
+    span: u32,
+    seed: u32,
+    spent: u8,
+) -> Made
+    requires { ⌜ spent ≤ 8 ⌝ }
+    ensures { λ r. ⌜ r ≡ tables.finishedAt (now (held .entry)) ceiling waiter clock span s i seed spent ⌝ }
+{
+    let operand = choice_if_needed(seed, operand_below(i, s, span));
+    let object = object_for(i, s, ceiling, held, operand.number);
+    let quiet = is_quiet(waiter, object);
+    let barrier = choice_if_needed(operand.seed, barrier_below(i, quiet));
+    let command = command_for(i, clock, object, quiet, operand.number, barrier.number);
+    Made {
+        command,
+        seed: barrier.seed,
+        spent: spent + operand.spent + barrier.spent,
+    }
+}
+
+// Kind, operand and barrier are made one after another, the kind by an even choice too.
+pub fn make_evenly(
+    base: &[u8; 32],
+    ready: &[u8; 32],
+    held: &[u8; 32],
+    way: &[u8; 32],
+    ceiling: [u8; 8],
+    waiter: [u8; 8],
+    clock: u64,
+    span: u32,
+    weights: [u32; 8],
+    seed: u32,
+) -> Made
+    ensures { λ r. ⌜ r ≡ evenlyOf
+        (now (base .entry)) (now (ready .entry)) (now (held .entry)) (now (way .entry))
+        ceiling waiter clock span weights seed ⌝ }
+{
+    let s = look(base, ready, held, way, ceiling, clock, span);
+    let w = worths(s, weights);
+    let kind = choice_from(seed, sum(w));
+    let i = kind_for(wide(kind.number), w);
+    finish(
+        i,
+        s,
+        held,
+        ceiling,
+        waiter,
+        clock,
+        span,
+        kind.seed,
+        kind.spent,
+    )
 }

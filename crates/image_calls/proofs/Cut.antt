@@ -21,7 +21,7 @@ use Rattle.kernel.specs.declared.Left.{Left}
 use Rattle.kernel.specs.Public.{stepOf, leftOf}
 use Rattle.generator.specs.declared.Profile.{Profile}
 use Rattle.generator.specs.declared.Drawn.{Drawn}
-use Rattle.generator_draws.specs.Draw.{good-profile, draw-refusal, drawn}
+use Rattle.generator_draws.specs.Draw.{good-profile, draw-refusal, drawn-by, drawn}
 use Rattle.generator.specs.Public.{profileOf, drawnIn, drawnOf}
 use Rattle.image_form.specs.Layout.{kernelOf}
 use Rattle.image_calls.specs.Calls.{told, fitted, fittedTask, toldProfile, fittedProfile, drawOn}
@@ -136,7 +136,7 @@ asked-left {u = u} j t e p q = e ∙ ap (λ (i : Kernel). leftOf i u) p ∙ ap (
 -- And so of a draw: profiles that are not good are refused alike, by 18, after 1 and 17.
 module _ (k : Kernel) (seed : ℕ) (p q : Profile) (h : good-profile (profileOf p) ≡ false) (j : good-profile (profileOf q) ≡ false) where
   not-good : drawnOf k seed p ≡ drawnOf k seed q
-  unfolding drawnOf drawnIn drawn draw-refusal
+  unfolding drawnOf drawnIn drawn drawn-by draw-refusal
   not-good = go (eqb seed 0) refl
     where
       go : (b : Bool) → eqb seed 0 ≡ b → drawnOf k seed p ≡ drawnOf k seed q

@@ -14,7 +14,7 @@ use Rattle.kernel.specs.Public.{isSound, stepOf, stepped}
 use Rattle.generator.specs.declared.Profile.{Profile}
 use Rattle.generator_draws.specs.Xorshift.{draw}
 use Rattle.generator_draws.specs.Menu.{menu}
-use Rattle.generator_draws.specs.Draw.{drawn, draw-refusal, chosen}
+use Rattle.generator_draws.specs.Draw.{drawn, drawn-by, made-by, draw-refusal}
 use Rattle.generator.specs.Public.{drawnIn, drawnOf}
 use Rattle.promises.specs.Words.{freshOf, runOf}
 
@@ -76,5 +76,5 @@ pub worked :
     line 16 8 0 3 1 10 ∷ [])
     × (draw 1 ∷ draw (draw 1) ∷ draw (draw (draw 1)) ∷ [] ≡ 270369 ∷ 67634689 ∷ 2647435461 ∷ [])
     × (drawnOf (runOf freshOf setUp) 1 tens ≡ record { code = 0; command = cmd 4 0 0 39; seed = 2647435461 })
-unfolding runOf stepOf freshOf isSound tidy view encode sound all-below rules.answer rules.next rules.released refusal carry leave release draw drawnOf drawnIn drawn draw-refusal chosen menu
+unfolding runOf stepOf freshOf isSound tidy view encode sound all-below rules.answer rules.next rules.released refusal carry leave release draw drawnOf drawnIn drawn drawn-by made-by draw-refusal menu
 worked = (refl, refl, refl)

@@ -46,14 +46,14 @@ array-read-worth-7 c = search needs
 worth-requires-7 : tie.Need-worth-requires-7
 worth-requires-7 c κs = search needs
 
-array-read-t14 : tie.Need-array-read-t14
-array-read-t14 c = search needs
+array-read-t15 : tie.Need-array-read-t15
+array-read-t15 c = search needs
 
 returns : tie.Need-returns
 unfolding worthsOf
 returns c =
     let e = c .before .before in
-    let d = e .before .before .before .before in
+    let d = e .before .before .before .before .before in
     rw (
       c .worth7 .ensures,
       c .before .worth6 .ensures,
@@ -82,5 +82,5 @@ worths-spec =
     worth-requires-6
     array-read-worth-7
     worth-requires-7
-    array-read-t14
+    array-read-t15
     returns)
