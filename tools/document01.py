@@ -1,5 +1,5 @@
 """One reading of document 01, with requests 2 and 4 of document 02, in Python: the machine, its step, and a draw by either edition. It is written from the papers alone, with lists and
-sorting, and shares nothing with the sources under crates/. What the programs kernel_cases, generator_cases and generator_run are to print is computed by it.
+sorting, and shares nothing with the sources under crates/. What kernel_cases, generator_cases, generator_run and generator_run_evenly are to print is computed by it.
 """
 
 LAST = 2**64 - 1

@@ -1,16 +1,15 @@
 -- What both editions' choosers have in common: the number is below n, the seed left is the draw applied as often as is told, and that is 1 to 8 times.
 -- Assumes nothing.
-use Prim.Native.Nat.{ℕ, zero, suc, _+_, _-_, _*_, _%_, _≤_, _<_, _^_}
+use Prim.Native.Nat.{ℕ, zero, suc, _+_, _-_, _%_, _≤_, _<_, _^_}
 use native.Mathlib.Omega.{arith}
 use native.Mathlib.Nat.{mod-lt, mod-one}
-use mathlib.Core.Path.{_≡_, refl, sym, ap, _∙_}
-use mathlib.Core.Logic.{_≢_}
+use mathlib.Core.Path.{_≡_, refl, ap, _∙_}
 use mathlib.Core.Bool.{Bool, true, false, cond}
 use lib.Dec.{eqb, ltb}
-use borrow.Author.Tests.{eqb-false, lt-ltb, ne-eqb}
+use borrow.Author.Tests.{lt-ltb}
 use Rattle.generator_draws.specs.Xorshift.{draw}
 use Rattle.generator_draws.specs.Below.{Choice, Chooser, remainder, value, limit, taken, one-later, choose-within, even, plain, if-needed}
-use Rattle.generator_draws.proofs.Undone.{draw-fits, draw-lives}
+use Rattle.generator_draws.proofs.Undone.{draw-fits}
 
 -- the draw, applied n times
 abbrev pub times : ℕ → ℕ → ℕ

@@ -14,7 +14,8 @@ use Rattle.rules.specs.Refusals.{refusal}
 use Rattle.rules.proofs.Words.{All, cmd}
 use Rattle.rules.proofs.Tests.{both-true}
 use Rattle.rules.proofs.Sounds.{Sound, object-known, runner-known}
-use Rattle.generator_draws.specs.Menu.{Offer, hand, free-runner, inside, eligible, sift, objects, eligibles, nth-eligible, span-fits, quiet, may-take, menu}
+use Rattle.generator_draws.specs.Menu.{Offer, hand, free-runner, inside, eligible, sift, objects, eligibles, nth-eligible, span-fits, quiet, may-take}
+use Rattle.generator_draws.specs.Menu.{menu}
 
 sift-all : (f P : ℕ → Bool) (l : List ℕ) → All (λ x. P x ≡ true) l → All (λ x. (P x ≡ true) × (f x ≡ true)) (sift f l)
 sift-all f P [] k = tt

@@ -1,14 +1,14 @@
--- Even odds, as counts. Of the numbers below L each choice below n comes from equally many, L / n. Over the eight draws of a choice, all values against all, each
--- choice comes from equally many lists of values, but for r ^ 7 lists where r = 4294967295 mod n: those whose first seven values are all drawn again and whose
--- eighth is not below L. Assumes nothing.
+-- Even odds, as counts. Of the numbers below L each choice below n comes from equally many, L / n. Over the eight draws of a choice, all values against all,
+-- each choice comes from equally many lists of values, but for r ^ 7 lists where r = 4294967295 mod n: those whose first seven values are all drawn again and
+-- whose eighth is not below L. Assumes nothing.
 use Prim.Native.Nat.{ℕ, zero, suc, _+_, _-_, _*_, _/_, _%_, _≤_, _<_, _^_}
 use native.Mathlib.Omega.{arith}
-use native.Mathlib.Nat.{mod-lt, mod-le, mod-eq-of-lt, mul-add, add-mul, mul-comm, mul-assoc, pow-zero, pow-succ', div-add-mod, mul-add-mod-self-left}
+use native.Mathlib.Nat.{mod-lt, mod-eq-of-lt, mul-add, add-mul, mul-comm, pow-zero, pow-succ', div-add-mod, mul-add-mod-self-left}
 use mathlib.Core.Path.{_≡_, refl, sym, ap, _∙_}
 use mathlib.Core.Bool.{Bool, true, false, cond}
-use mathlib.Core.List.{List, [], _∷_}
+use mathlib.Core.List.{_∷_}
 use lib.Dec.{eqb, ltb}
-use borrow.Author.Tests.{eqb-true, eqb-false, eq-eqb, ne-eqb, ltb-true, ltb-false, lt-ltb, le-ltb}
+use borrow.Author.Tests.{eqb-true, eqb-false, ltb-true, ltb-false, lt-ltb, le-ltb}
 use Rattle.generator_draws.specs.Xorshift.{draw}
 use Rattle.generator_draws.specs.Below.{value, limit, taken, one-later, choose-within, even}
 use Rattle.generator_draws.specs.Odds.{sum-below, how-many, how-many-lists, chosen-from, values, draw-values, ways-to, common}
@@ -37,7 +37,8 @@ unfolding sum-below
 sum-split a zero f = let e : a + 0 ≡ a = omega arith in ap (λ (x : ℕ). sum-below x f) e ∙ (let z : sum-below a f ≡ sum-below a f + 0 = omega arith in z)
 sum-split a (suc b) f =
     let e : a + suc b ≡ suc (a + b) = omega arith in
-    ap (λ (x : ℕ). sum-below x f) e ∙ (let z : sum-below (a + b) f + f (a + b) ≡ sum-below a f + (sum-below b (λ v. f (a + v)) + f (a + b)) = omega (arith, sum-split a b f) in z)
+    ap (λ (x : ℕ). sum-below x f) e ∙ (let z : sum-below (a + b) f + f (a + b)
+    ≡ sum-below a f + (sum-below b (λ v. f (a + v)) + f (a + b)) = omega (arith, sum-split a b f) in z)
 
 -- ## The remainders of a whole number of rounds
 next-above : (k c : ℕ) → k ≤ c → (k ≡ c → ⊥) → suc k ≤ c
@@ -105,11 +106,13 @@ module _ (n c : ℕ) (pos : 1 ≤ n) (low : c < n) where
     unfolding how-many-lists
     last-value =
         ap (λ (k : ℕ). how-many k (λ v. eqb (v % n) c)) whole
-        ∙ (sum-split lim r (λ v. cond (eqb (v % n) c) 1 0) ∙ (let z : how-many lim (λ v. eqb (v % n) c) + how-many r (λ v. eqb ((lim + v) % n) c) ≡ q + cond (ltb c r) 1 0
+        ∙ (sum-split lim r (λ v. cond (eqb (v % n) c) 1 0) ∙ (let z : how-many lim (λ v. eqb (v % n) c) + how-many r (λ v. eqb ((lim + v) % n) c)
+        ≡ q + cond (ltb c r) 1 0
         = omega (arith, in-rounds q, in-round q r rest) in z))
 
     -- a first value below the limit decides; any other leaves it to the values behind it
-    by-first : (k v : ℕ) → how-many-lists top (suc k) (λ l. eqb (chosen-from lim n (v ∷ l)) c) ≡ cond (ltb v lim) (cond (eqb (v % n) c) (top ^ suc k) 0) (ways k)
+    by-first : (k v : ℕ) → how-many-lists top (suc k) (λ l. eqb (chosen-from lim n (v ∷ l)) c)
+        ≡ cond (ltb v lim) (cond (eqb (v % n) c) (top ^ suc k) 0) (ways k)
     unfolding how-many-lists
     by-first k v = go (ltb v lim)
       where

@@ -1,7 +1,7 @@
 -- Edition 2 in numbers, computed: seeds whose choice draws again, found by a search through all of them, and commands drawn from the set-up of the walk.
 -- Assumes nothing.
 use mathlib.Core.Path.{_≡_, refl}
-use mathlib.Core.List.{List, [], _∷_, _++_}
+use mathlib.Core.List.{[], _∷_, _++_}
 use Rattle.rules.specs.Machine.{Machine, fresh}
 use Rattle.rules.specs.Table.{carry, leave, release}
 use Rattle.rules.specs.Refusals.{refusal}
@@ -28,8 +28,8 @@ pub again-and-again : (even 100 22372349 ≡ record { number = 48; seed = 223503
 unfolding even draw
 again-and-again = (refl, refl, refl)
 
--- Commands. From seed 1 with ten for each kind, as document 01's drawn delay 39 of edition 1; with S of 7 and of 100, from seeds whose first choice draws again;
--- and inside an entry, where done's barrier is the last choice.
+-- Commands. From seed 1 with ten for each kind, as document 01's drawn delay 39 of edition 1; with S of 7 and of 100, from seeds whose first choice draws
+-- again; and inside an entry, where done's barrier is the last choice.
 abbrev tens : Profile
 tens = record { span = 100; weights = 10 ∷ 10 ∷ 10 ∷ 10 ∷ 10 ∷ 10 ∷ 10 ∷ 10 ∷ [] }
 

@@ -17,12 +17,13 @@ use Rattle.rules.specs.Sound.{sound}
 use Rattle.rules.specs.Run.{next, run}
 use Rattle.rules.proofs.Words.{cmd}
 use Rattle.rules.proofs.Tests.{both-true}
-use Rattle.rules.proofs.Sounds.{Sound, tests-sound}
+use Rattle.rules.proofs.Sounds.{tests-sound}
 use Rattle.rules.proofs.Walk.{set-up}
 use Rattle.generator_draws.specs.Xorshift.{draw}
 use Rattle.generator_draws.specs.Menu.{Offer, menu, span-fits}
 use Rattle.generator_draws.specs.Below.{Choice, Chooser, remainder, limit, even, plain, if-needed}
-use Rattle.generator_draws.specs.Draw.{Profile, good-profile, weighed-menu, total, choose, filled, Made, made-by, no-command, no-offer, draw-refusal, Spending, drawn-by}
+use Rattle.generator_draws.specs.Draw.{Profile, good-profile, weighed-menu, total, choose, filled, Made, made-by, no-command, no-offer, draw-refusal}
+use Rattle.generator_draws.specs.Draw.{Spending, drawn-by}
 use Rattle.generator_draws.specs.Draw.{remainder-if-needed, command-by, chosen, Drawn, drawn}
 use Rattle.generator_draws.proofs.Chooses.{times, times-add, Chooses, remainder-chooses, at-once, needed-chooses}
 use Rattle.generator_draws.proofs.Choice.{choose-all, ahead, chosen-by, entry, weighed, weigh-all, total-has, total-small}
@@ -101,7 +102,8 @@ module _ (m : Machine) (p : Profile) (s : sound m ≡ true) (on : m .started ≡
   of-picked P f d h =
       choose-all P d 0 (weighed-menu m p)
       (weigh-all (λ i o. P o) (menu m (p .span)) (p .weights)
-      (λ i o k w e. let z : i < 8 = omega (arith, menu-eight m (p .span)) in subst P (same-entry i o k) (f i z w (ap (λ (y : Offer). y .legal) (same-entry i o k) ∙ e)))
+      (λ i o k w e. let z : i < 8 = omega (arith, menu-eight m (p .span)) in subst P (same-entry i o k)
+      (f i z w (ap (λ (y : Offer). y .legal) (same-entry i o k) ∙ e)))
       P (λ i o w. w))
       (omega arith) (omega arith)
     where
@@ -109,7 +111,8 @@ module _ (m : Machine) (p : Profile) (s : sound m ≡ true) (on : m .started ≡
       same-entry i o k = inside-same (menu m (p .span)) i no-offer o k
 
   -- by any numbers that fit, what is chosen is fine
-  fine : (d x y : ℕ) → d < total (weighed-menu m p) → let o = choose d 0 (weighed-menu m p) in Fits (o .operand) x → Fits (o .barrier x) y → Fine m p (o .command x y)
+  fine : (d x y : ℕ) → d < total (weighed-menu m p) → let o = choose d 0 (weighed-menu m p) in Fits (o .operand) x → Fits (o .barrier x) y
+      → Fine m p (o .command x y)
   fine d x y h =
       of-picked (λ o. Fits (o .operand) x → Fits (o .barrier x) y → Fine m p (o .command x y))
       (λ i k w e u v. of-kind i (offer-at m p i .command x y) k w (legal-right m (tests-sound m .sure s) on (p .span) spans i no-offer k e x y u v)) d h
@@ -173,7 +176,8 @@ module _ (m : Machine) (p : Profile) (s : sound m ≡ true) (on : m .started ≡
       let c = number-for i h e w in
       let same : ahead l i % total l ≡ ahead l i = mod-eq-of-lt (c .0) in
       let back : suc (ahead l i) - 1 ≡ ahead l i = omega arith in
-      let under : ahead l i < limit (total l) = under-limit (ahead l i) (total l) (4294967295 % total l) (c .0) sum-small (mod-lt 4294967295 sum-at-least-one) in
+      let under : ahead l i < limit (total l) = under-limit (ahead l i) (total l) (4294967295 % total l) (c .0) sum-small
+      (mod-lt 4294967295 sum-at-least-one) in
       let found : choose (ahead l i % total l) 0 l ≡ offer-at m p i = rw same (c .1) in
       let under-1 : suc (ahead l i) - 1 < limit (total l) = rw back under in
       let found-1 : choose ((suc (ahead l i) - 1) % total l) 0 l ≡ offer-at m p i = rw back found in (

@@ -1,5 +1,5 @@
 -- How a number below n is chosen from a seed: one rule for each edition, and the plain draw of what is not needed.
-use Prim.Native.Nat.{ℕ, zero, suc, _+_, _-_, _%_}
+use Prim.Native.Nat.{ℕ, zero, suc, _-_, _%_}
 use mathlib.Core.Bool.{cond}
 use lib.Dec.{eqb, ltb}
 use Rattle.generator_draws.specs.Xorshift.{draw}
@@ -32,10 +32,12 @@ taken n seed = record { number = value seed % n; seed = draw seed; spent = 1 }
 abbrev pub one-later : Choice → Choice
 one-later c = record { number = c .number; seed = c .seed; spent = suc (c .spent) }
 
--- If v is below L the choice is v mod n, otherwise it draws again, at most `more` times; the last draw always gives v mod n.
+-- If v is below L the choice is v mod n, otherwise it draws again, at most `more` times; the last draw always gives v
+-- mod n.
 abbrev pub choose-within : ℕ → Chooser
 choose-within zero n seed = taken n seed
-choose-within (suc more) n seed = cond (ltb (value seed) (limit n)) (taken n seed) (one-later (choose-within more n (draw seed)))
+choose-within (suc more) n seed =
+    cond (ltb (value seed) (limit n)) (taken n seed) (one-later (choose-within more n (draw seed)))
 
 -- at most 8 draws in all
 unfoldable pub even : Chooser

@@ -1,5 +1,5 @@
--- A drawn command: the profile, the choice by weights, the operands, and the refusals of a draw. Both editions are one definition
--- over how a number below n is chosen.
+-- A drawn command: the profile, the choice by weights, the operands, and the refusals of a draw. Both editions are one
+-- definition over how a number below n is chosen.
 use Prim.Native.Nat.{ℕ, _+_, _%_}
 use mathlib.Core.Bool.{Bool, false, cond, not, _&&_}
 use mathlib.Core.List.{List, [], _∷_}
@@ -43,8 +43,8 @@ abbrev pub choose : ℕ → ℕ → List (ℕ × Offer) → Offer
 choose d sum [] = no-offer
 choose d sum (x ∷ l) = cond (ltb d (sum + x .0)) (x .1) (choose d (sum + x .0) l)
 
--- Kind, operand and barrier are each one choice, made one after another; what is not needed spends one draw. What they give: the
--- command, the seed left behind, and the draws spent.
+-- Kind, operand and barrier are each one choice, made one after another; what is not needed spends one draw. What they
+-- give: the command, the seed left behind, and the draws spent.
 pub record Made : Type 0 where
   pub command : Command
   pub seed : ℕ
@@ -81,8 +81,8 @@ refused-by started seed p =
 unfoldable pub draw-refusal : Machine → ℕ → Profile → ℕ
 draw-refusal m seed p = refused-by (m .started) seed p
 
--- A drawn command of either edition: code, command, the seed left behind, and the draws spent. A refused draw answers op 0 with
--- zero operands and the same seed, and spends none.
+-- A drawn command of either edition: code, command, the seed left behind, and the draws spent. A refused draw answers
+-- op 0 with zero operands and the same seed, and spends none.
 pub record Spending : Type 0 where
   pub code : ℕ
   pub command : Command

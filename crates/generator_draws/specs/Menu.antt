@@ -1,5 +1,5 @@
--- The menu of a draw: the eight kinds in op order 4..11, each with whether it is legal, which numbers are chosen for it, and
--- the command that it is by them.
+-- The menu of a draw: the eight kinds in op order 4..11, each with whether it is legal, which numbers are chosen for
+-- it, and the command that it is by them.
 use Prim.Native.Nat.{ℕ, _+_, _^_}
 use mathlib.Core.Bool.{Bool, true, cond, not, _&&_}
 use mathlib.Core.List.{List, [], _∷_}
@@ -47,8 +47,9 @@ span-fits m span = ltb (m .clock + span) (2 ^ 64)
 abbrev pub quiet : Machine → ℕ → Bool
 quiet m o = empty (getD (m .queue) o [])
 
--- An offer of the menu: whether it is legal; below which number its operand is chosen, 0 for an operand that is not needed; the
--- same of its barrier, by the number that was chosen for the operand; and the command that it is, by both numbers.
+-- An offer of the menu: whether it is legal; below which number its operand is chosen, 0 for an operand that is not
+-- needed; the same of its barrier, by the number that was chosen for the operand; and the command that it is, by both
+-- numbers.
 pub record Offer : Type 0 where
   pub legal : Bool
   pub operand : ℕ
@@ -59,8 +60,8 @@ abbrev pub command-of : ℕ → ℕ → ℕ → ℕ → Command
 command-of op a b value = record { op = op; a = a; b = b; value = value }
 
 -- Legal kinds: wake always; delay (runner not idle, holding nothing) and advance, both only if clock + span is at most
--- 2^64-1; open and entry when the runner is not idle, holds nothing and some object is eligible; closep and closef inside
--- an open; done inside an entry.
+-- 2^64-1; open and entry when the runner is not idle, holds nothing and some object is eligible; closep and closef
+-- inside an open; done inside an entry.
 abbrev pub may-delay : Machine → ℕ → Bool
 may-delay m span = free-runner m && span-fits m span
 
@@ -86,9 +87,9 @@ entering m = record {
   command = λ x y. command-of 10 (nth-eligible m x) (cond (quiet m (nth-eligible m x)) y 1) 0;
 }
 
--- Kinds in op order 4..11. Operands: delay clock + a number below span + 1; advance 1 + a number below span; open and entry
--- the eligible object of that number, below their count; closing commands the held object. The barrier of closep and entry,
--- and by request 2 of done, is a number below 2. All other operands are 0.
+-- Kinds in op order 4..11. Operands: delay clock + a number below span + 1; advance 1 + a number below span; open and
+-- entry the eligible object of that number, below their count; closing commands the held object. The barrier of closep
+-- and entry, and by request 2 of done, is a number below 2. All other operands are 0.
 unfoldable pub menu : Machine → ℕ → List Offer
 menu m span =
     with-operand (may-delay m span) (span + 1) (λ x. command-of 4 0 0 (m .clock + x)) ∷

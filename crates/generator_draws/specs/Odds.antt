@@ -19,7 +19,8 @@ unfoldable pub how-many-lists : ℕ → ℕ → (List ℕ → Bool) → ℕ
 how-many-lists top zero f = cond (f []) 1 0
 how-many-lists top (suc k) f = sum-below top (λ v. how-many-lists top k (λ l. f (v ∷ l)))
 
--- The choice below n by the values v of its draws, one after another: the first below the limit gives v mod n, the last always does.
+-- The choice below n by the values v of its draws, one after another: the first below the limit gives v mod n, the last
+-- always does.
 abbrev pub chosen-from : ℕ → ℕ → List ℕ → ℕ
 chosen-from lim n [] = 0
 chosen-from lim n (v ∷ []) = v % n
@@ -37,7 +38,8 @@ draw-values = 4294967295
 abbrev pub ways-to : ℕ → ℕ → ℕ
 ways-to n c = how-many-lists draw-values 8 (λ l. eqb (chosen-from (limit n) n l) c)
 
--- What each choice has in common with every other: q of the values of a draw give it at once, and r of them are drawn again.
+-- What each choice has in common with every other: q of the values of a draw give it at once, and r of them are drawn
+-- again.
 abbrev pub common : ℕ → ℕ → ℕ → ℕ → ℕ
 common top q r zero = q
 common top q r (suc k) = q * top ^ suc k + r * common top q r k

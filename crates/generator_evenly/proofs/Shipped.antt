@@ -1,6 +1,6 @@
 -- What is promised of a draw by even choices as it is shipped: `drawnOf k seed p` is what `draw` answers (its contract is the equation), and `stepped k c` what
 -- Kernel::step does. Each promise in plain words, and then in antt. Assumes nothing.
-use Prim.Native.Nat.{ℕ, zero, suc, _-_, _≤_, _<_, _^_}
+use Prim.Native.Nat.{ℕ, _-_, _≤_, _<_, _^_}
 use native.Mathlib.Omega.{arith}
 use mathlib.Core.Path.{_≡_, refl, sym, ap, _∙_}
 use mathlib.Core.Logic.{_≢_}
@@ -117,7 +117,8 @@ by-choices : (m : Machine) (seed : ℕ) (p : draws.Profile) → drawn-by even m 
 unfolding drawn-by
 by-choices m seed p z = rw (eq-eqb (draw-refusal m seed p) 0 (sym (drawn-code m seed p) ∙ z))
 
-pub drawn-made : (k : Kernel) (seed : ℕ) (p : Profile) → drawnOf k seed p .code ≡ 0 → drawnOf k seed p ≡ madeOf (toldMade (made-by even (view k) seed (profileOf p)))
+pub drawn-made : (k : Kernel) (seed : ℕ) (p : Profile) → drawnOf k seed p .code ≡ 0
+    → drawnOf k seed p ≡ madeOf (toldMade (made-by even (view k) seed (profileOf p)))
 drawn-made k seed p e = go (ways k seed p)
   where
     go : Tested k seed p → drawnOf k seed p ≡ madeOf (toldMade (made-by even (view k) seed (profileOf p)))

@@ -24,7 +24,8 @@ use Rattle.generator_evenly.proofs.Shipped.{code-same, code-is, refused
 
 -- What the menu makes looks at the machine that the tables show, and at no more.
 made-read : (k : Kernel) (seed : ℕ) (p : Profile)
-    → evenlyOf (k .base) (k .ready) (k .held) (k .way) (k .ceiling) (k .waiter) (k .clock) (p .span) (p .weights) seed ≡ toldMade (made-by even (view k) seed (profileOf p))
+    → evenlyOf (k .base) (k .ready) (k .held) (k .way) (k .ceiling) (k .waiter) (k .clock) (p .span) (p .weights) seed
+    ≡ toldMade (made-by even (view k) seed (profileOf p))
 unfolding view evenlyOf made-by menu
 made-read k seed p = refl
 
@@ -36,11 +37,13 @@ module _ (k : Kernel) (seed : ℕ) (p : Profile) where
       f ∙ ap (λ (x : ℕ). refusedOf x seed) g ∙ sym (refused-leaves k seed p (λ z. n (g ∙ z)))
 
   pub makes : (code : ℕ) (d : Made) (r : Drawn) → code ≡ codeOf k seed p → code ≡ 0
-      → d ≡ evenlyOf (k .base) (k .ready) (k .held) (k .way) (k .ceiling) (k .waiter) (k .clock) (p .span) (p .weights) seed → r ≡ madeOf d → r ≡ drawnOf k seed p
+      → d ≡ evenlyOf (k .base) (k .ready) (k .held) (k .way) (k .ceiling) (k .waiter) (k .clock) (p .span) (p .weights) seed → r ≡ madeOf d
+      → r ≡ drawnOf k seed p
   makes code d r e z g f = f ∙ ap madeOf (g ∙ made-read k seed p) ∙ sym (drawn-made k seed p (code-is k seed p ∙ sym e ∙ z))
 
   -- what is drawn, and an answer to it, as the definitions have them
-  whole : (x : Drawn) (a : Answer) → x ≡ drawnOf k seed p → a ≡ answerTo k (bare x) → carriedOf x a ≡ carriedOf (drawnOf k seed p) (answerTo k (bare (drawnOf k seed p)))
+  whole : (x : Drawn) (a : Answer) → x ≡ drawnOf k seed p → a ≡ answerTo k (bare x)
+      → carriedOf x a ≡ carriedOf (drawnOf k seed p) (answerTo k (bare (drawnOf k seed p)))
   whole x a e f = ap (carriedOf x) f ∙ ap (λ (y : Drawn). carriedOf y (answerTo k (bare y))) e
 
   -- A refused draw leaves the tables. A draw that is made comes from a sound state, and the step of such a state needs no test (kernel, Whole: step-meets).
@@ -53,5 +56,7 @@ module _ (k : Kernel) (seed : ℕ) (p : Profile) where
       → (left ≡ steppedOf k (to-rules (x .command)) .next) × (a ≡ steppedOf k (to-rules (x .command)) .answer) → DrawsAndSteps k seed p (carriedOf x a) left
   steps x a left d z s =
       let m = step-meets k (to-rules (x .command)) (made-sound k seed p (sym (code-same d) ∙ z)) in
-      let r = made-steps k (bare x) z in
-      (s .0 ∙ ap (λ (t : Stepped). t .next) m ∙ r .0 ∙ ap (λ (y : Drawn). behindDraw k (bare y)) d, whole x a d (s .1 ∙ ap (λ (t : Stepped). t .answer) m ∙ r .1))
+      let r = made-steps k (bare x) z in (
+        s .0 ∙ ap (λ (t : Stepped). t .next) m ∙ r .0 ∙ ap (λ (y : Drawn). behindDraw k (bare y)) d,
+        whole x a d (s .1 ∙ ap (λ (t : Stepped). t .answer) m ∙ r .1),
+      )

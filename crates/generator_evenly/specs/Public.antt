@@ -11,7 +11,7 @@ use Rattle.generator.specs.declared.Profile.{Profile}
 use Rattle.generator.specs.declared.Drawn as once
 use Rattle.generator.specs.Public.{profileOf, behindDraw, answerTo}
 use Rattle.generator_menu.specs.declared.Made.{Made}
-use Rattle.generator_menu.specs.Public.{toldCommand, toldMade}
+use Rattle.generator_menu.specs.Public.{toldCommand}
 use Rattle.generator_evenly.specs.declared.Drawn.{Drawn}
 use Rattle.generator_evenly.specs.declared.Carried.{Carried}
 

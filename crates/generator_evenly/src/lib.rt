@@ -1,5 +1,5 @@
-// A command drawn by even choices (edition 2), on lent tables, and such a draw with its step there. What refuses a draw, the
-// menu, the weights and the operands are those of crate generator; so is the order of the checks.
+// A command drawn by even choices (edition 2), on lent tables, and such a draw with its step there. What refuses a
+// draw, the menu, the weights and the operands are those of crate generator; so is the order of the checks.
 use generator::Profile;
 use generator::in_place::code_of;
 use generator_menu::Made;
@@ -10,8 +10,8 @@ ghost use mathlib.Core.Path.{_≡_};
 ghost use Rattle.kernel.specs.Step.{tables};
 ghost use Rattle.generator_evenly.specs.Public.{refusedOf, madeOf, drawnOf, DrawsAndSteps};
 
-// The answer of a draw, with the draws that it spent: 3 to 24. A refused one has op 0, zero operands and the same seed, and
-// spends none.
+// The answer of a draw, with the draws that it spent: 3 to 24. A refused one has op 0, zero operands and the same seed,
+// and spends none.
 pub struct Drawn {
     pub code: u8,
     pub command: Command,

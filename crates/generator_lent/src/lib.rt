@@ -92,7 +92,8 @@ fn taken(x: u32, n: u64, spent: u8) -> Choice
     }
 }
 
-// The choice below n from a seed. Where v is below L it is v mod n, otherwise it draws again; the eighth draw always gives v mod n.
+// The choice below n from a seed. Where v is below L it is v mod n, otherwise it draws again; the eighth draw always
+// gives v mod n.
 pub fn choice_from(seed: u32, n: u64) -> Choice
     ensures { λ r. ⌜ r ≡ toldChoice (below.even n seed) ⌝ }
 {
@@ -125,7 +126,8 @@ pub fn choice_if_needed(seed: u32, n: u64) -> Choice
     }
 }
 
-// The same over a generator that is lent: a choice below n, and its seed is advanced where it stands, as often as the choice says.
+// The same over a generator that is lent: a choice below n, and its seed is advanced where it stands, as often as the
+// choice says.
 pub fn choose(g: &mut Generator, n: u64) -> Choice
     ensures { λ r. ⌜ Chooses (now (g .entry)) n r (now (g .exit)) ⌝ }
 {

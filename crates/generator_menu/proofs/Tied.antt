@@ -5,7 +5,7 @@ use native.Mathlib.Omega.{arith}
 use native.Mathlib.Nat.{mod-lt, mod-eq-of-lt}
 use mathlib.Core.Path.{_≡_, refl, sym, ap, subst, _∙_}
 use mathlib.Core.Bool.{Bool, true, false, cond, not, _&&_}
-use mathlib.Core.List.{List, [], _∷_, map}
+use mathlib.Core.List.{List, [], _∷_}
 use lib.Dec.{eqb, ltb}
 use lib.ListN.{length, getD, drop, drop-of-length-le}
 use lib.Seq.{drop-cons}
@@ -19,7 +19,7 @@ use Rattle.kernel_checks.specs.declared.Command.{Command}
 use Rattle.kernel_checks.specs.Shown.{shown}
 use Rattle.generator_draws.specs.Below.{even, if-needed}
 use Rattle.generator_draws.specs.Menu.{Offer, menu, span-fits, free-runner, inside, hand, eligibles, quiet}
-use Rattle.generator_draws.specs.Draw.{profile-of, weigh, total, choose, chosen, made-by, no-offer, remainder-if-needed, command-by}
+use Rattle.generator_draws.specs.Draw.{weigh, total, choose, chosen, made-by, no-offer, remainder-if-needed, command-by}
 use Rattle.generator_draws.proofs.Chooses.{even-chooses, needed-chooses}
 use Rattle.generator_lent.specs.declared.Choice.{Choice}
 use Rattle.generator_lent.specs.Lent.{toldChoice}
@@ -300,7 +300,8 @@ module _ (base ready held way ceiling waiter : List ℕ) (clock span : ℕ) (wei
       → sum ≡ sumOf w → w ≡ worthsOf v weights → v ≡ s → r ≡ evenlyOf base ready held way ceiling waiter clock span weights seed
   evenly-from seed v w sum kind d i r e1 e2 e3 e4 e5 e6 e7 = rw (e1, e2, e3, e4, e5, e6, e7) (evenly-is seed)
 
-pub finished-from : (held ceiling waiter : List ℕ) (clock span : ℕ) (s : Sight) (i seed spent n : ℕ) (operand : Choice) (o : ℕ) (q : Bool) (k : ℕ) (barrier : Choice)
+pub finished-from : (held ceiling waiter : List ℕ) (clock span : ℕ) (s : Sight) (i seed spent n : ℕ) (operand : Choice) (o : ℕ) (q : Bool) (k : ℕ)
+    (barrier : Choice)
     (c : Command) → c ≡ commandAt clock o q (operand .number) (barrier .number) i → barrier ≡ toldChoice (if-needed even k (operand .seed)) → k ≡ barrierAt q i
     → q ≡ quietAt waiter o → o ≡ objectAt ceiling held s i (operand .number) → operand ≡ toldChoice (if-needed even n seed) → n ≡ operandAt s span i
     → _≡_ {A = Made} (record { command = c; seed = barrier .seed; spent = spent + operand .spent + barrier .spent })

@@ -17,8 +17,8 @@ toldCommand c = record { op = c .op; a = c .a; b = c .b; value = c .value }
 abbrev pub toldMade : draws.Made → Made
 toldMade d = record { command = toldCommand (d .command); seed = d .seed; spent = d .spent }
 
--- Edition 1: the command that the definitions choose by three draws. (What is chosen does not look at the delay line, nor at
--- whether the machine is started.)
+-- Edition 1: the command that the definitions choose by three draws. (What is chosen does not look at the delay line,
+-- nor at whether the machine is started.)
 unfoldable pub chosenOf : List ℕ → List ℕ → List ℕ → List ℕ → List ℕ → List ℕ → ℕ → ℕ → List ℕ → ℕ → ℕ → ℕ → Command
 chosenOf base ready held way ceiling waiter clock span weights d1 d2 d3 =
     toldCommand (chosen (shown base ready held way ceiling waiter clock true) (profile-of span weights) d1 d2 d3)

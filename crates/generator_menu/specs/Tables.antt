@@ -26,8 +26,8 @@ upward (suc n) o = o ∷ upward n (suc o)
 abbrev pub eligiblesIn : List ℕ → List ℕ → List ℕ → List ℕ → List ℕ
 eligiblesIn base ready held ceiling = sift (eligibleIn ceiling held (at base (runner-in ready))) objects
 
--- What a draw looks at, by the runner, the object that it holds and in which way, its base, and the count of its eligible
--- objects;
+-- What a draw looks at, by the runner, the object that it holds and in which way, its base, and the count of its
+-- eligible objects;
 abbrev pub seenBy : ℕ → ℕ → ℕ → ℕ → ℕ → Bool → Sight
 seenBy runner hand way level count room =
     record {
@@ -103,7 +103,8 @@ unfoldable pub indexOf : ℕ → List ℕ → ℕ
 indexOf d [] = 0
 indexOf d (w ∷ ws) = cond (ltb d w) 0 (suc (indexOf (d - w) ws))
 
--- Edition 2, behind the choice of kind i, which left that seed and spent so many draws: the operand, the barrier, and what they make.
+-- Edition 2, behind the choice of kind i, which left that seed and spent so many draws: the operand, the barrier, and
+-- what they make.
 unfoldable pub finishedAt : List ℕ → List ℕ → List ℕ → ℕ → ℕ → Sight → ℕ → ℕ → ℕ → Made
 finishedAt held ceiling waiter clock span s i seed spent =
     let operand = if-needed even (operandAt s span i) seed in

@@ -85,8 +85,8 @@ fn nth_eligible(ceiling: [u8; 8], held: &[u8; 32], base: u8, n: u64) -> u8
 
 // ---- What a draw looks at
 
-// Of the runner: it is not idle and holds nothing, or it is inside an open or an entry; the object that it holds, 0 for none; and
-// its base. Of the objects: how many are eligible. Of the clock: the span fits.
+// Of the runner: it is not idle and holds nothing, or it is inside an open or an entry; the object that it holds, 0 for
+// none; and its base. Of the objects: how many are eligible. Of the clock: the span fits.
 struct Sight {
     free: bool,
     opened: bool,
@@ -244,7 +244,8 @@ fn is_quiet(waiter: [u8; 8], o: u8) -> bool
     kernel_line::of_object(waiter, POId(o)) == 0
 }
 
-// Below which number the barrier is chosen, 0 for one that is not needed: an entry's is 1 where the object has a waiter.
+// Below which number the barrier is chosen, 0 for one that is not needed: an entry's is 1 where the object has a
+// waiter.
 fn barrier_below(i: u8, quiet: bool) -> u64
     ensures { λ r. ⌜ r ≡ tables.barrierAt quiet i ⌝ }
 {
@@ -323,8 +324,8 @@ pub struct Made {
     pub spent: u8,
 }
 
-// Behind the choice of kind i, which left that seed and spent so many draws: operand and barrier are each one even choice; what
-// is not needed spends one draw.
+// Behind the choice of kind i, which left that seed and spent so many draws: operand and barrier are each one even
+// choice; what is not needed spends one draw.
 fn finish(
     i: u8,
     s: Sight,

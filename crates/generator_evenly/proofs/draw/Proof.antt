@@ -33,7 +33,8 @@ returns c =
 returns-2 : tie.Need-returns-2
 returns-2 c =
     let s = c .before .before .before .before .before in
-    makes (lent s) (s .args .seed) (s .args .p) _ _ _ (c .before .before .before .before .code-of .ensures) (c .before .before .before .if1 .left) (c .before .make-evenly .ensures) (c .made .ensures)
+    makes (lent s) (s .args .seed) (s .args .p) _ _ _ (c .before .before .before .before .code-of .ensures) (c .before .before .before .if1 .left)
+    (c .before .make-evenly .ensures) (c .made .ensures)
 
 pub draw-spec : {M : Type 1} → statement M
 draw-spec = tie.close (tie.spec code-of-requires refused-requires returns make-evenly-requires made-requires returns-2)

@@ -56,7 +56,8 @@ loop-again c =
     let v = c .before .value-of in
     let a = h .before .before .args in (
       omega arith,
-      h .loop .inv .1 ∙ again (a .n) (h .loop .s) (h .loop .spent) (x .result) (omega arith) (x .ensures) (omega (arith, v .ensures, h .before .limit .ensures)),
+      h .loop .inv .1 ∙ again (a .n) (h .loop .s) (h .loop .spent) (x .result) (omega arith) (x .ensures)
+          (omega (arith, v .ensures, h .before .limit .ensures)),
     )
 
 xorshift-requires-2 : tie.Need-xorshift-requires-2 Inv-loop μ-loop

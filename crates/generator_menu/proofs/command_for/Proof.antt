@@ -1,6 +1,6 @@
 -- `generator_menu::command_for` meets its contract, by what its callees ensure of each column. Assumes nothing.
 use Prim.Native.Nat.{ℕ, _+_, _%_}
-use mathlib.Core.Path.{_≡_, ap, _∙_}
+use mathlib.Core.Path.{_≡_}
 use mathlib.Core.Bool.{Bool, cond}
 use mathlib.Core.List.{[], _∷_}
 use Rattle.rules.specs.Line.{at}
@@ -47,8 +47,10 @@ whole clock object quiet x y i op b value entry delay wide e f g h j k = rw (e, 
 returns : tie.Need-returns
 returns c =
     let a = c .before .before .before .before .before .before .args in
-    whole (a .clock) (a .object) (a .quiet) (a .x) (a .y) (a .i) _ _ _ _ _ _ (c .before .before .cell .ensures) (c .before .cell2 .ensures) (c .long-cell .ensures)
-    (c .before .before .before .before .before .choose .ensures) (c .before .before .before .before .delay-time .ensures) (c .before .before .before .wide .ensures .0)
+    whole (a .clock) (a .object) (a .quiet) (a .x) (a .y) (a .i) _ _ _ _ _ _ (c .before .before .cell .ensures) (c .before .cell2 .ensures)
+    (c .long-cell .ensures)
+    (c .before .before .before .before .before .choose .ensures) (c .before .before .before .before .delay-time .ensures)
+    (c .before .before .before .wide .ensures .0)
 
 pub command-for-spec : {M : Type 1} → statement M
 command-for-spec =

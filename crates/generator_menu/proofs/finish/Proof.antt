@@ -29,7 +29,11 @@ command-for-requires c κs = search needs
 add-t16 : tie.Need-add-t16
 add-t16 c =
     let k = c .before .before .before .before .before .before in
-    omega (arith, few-spent-if-needed (k .before .operand-below .result) (k .before .before .args .seed) (k .choice-if-needed .result) (k .choice-if-needed .ensures))
+    omega (
+      arith,
+      few-spent-if-needed (k .before .operand-below .result) (k .before .before .args .seed) (k .choice-if-needed .result)
+          (k .choice-if-needed .ensures),
+    )
 
 add-t17 : tie.Need-add-t17
 add-t17 c =

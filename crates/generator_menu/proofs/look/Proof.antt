@@ -49,12 +49,12 @@ looked base ready held way ceiling clock span runner level hand how count room e
 
 returns : tie.Need-returns
 returns c =
-    let t = c .before .before in
+    let t = c .before .before .before in
     let r = t .before .before .before in
     let a = r .before .args in
     looked (a .base .now) (a .ready .now) (a .held .now) (a .way .now) (a .ceiling) (a .clock) (a .span) _ _ _ _ _ _
     (ap (λ (x : TaskID). x .0) (r .runner .ensures)) (t .before .before .of-task .ensures) (t .before .of-task2 .ensures) (t .of-task3 .ensures)
-    (c .before .count-eligible .ensures) (c .has-room .ensures)
+    (c .before .before .count-eligible .ensures) (c .has-room .ensures)
 
 pub look-spec : {M : Type 1} → statement M
 look-spec =

@@ -1,5 +1,4 @@
 -- `generator_menu::make_evenly` meets its contract, by what its callees ensure of the tables; and the tables show the machine (Tied). Assumes nothing.
-use native.Mathlib.Omega.{arith}
 use mathlib.Core.Path.{_≡_}
 use lib.ListN.{length}
 use Rattle.generator_menu.proofs.Tied.{few-spent, evenly-from}
