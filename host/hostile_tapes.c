@@ -37,9 +37,11 @@ struct finding {
 /* 0, 15 or 17 of 16 bytes. */
 static uint32_t fault(const uint8_t *r, int is_first)
 {
-    static const uint8_t header[8] = {0x52, 0x56, 0, 1, 0, 0, 0, 0};
-    if (is_first)
-        return memcmp(r, header, 8) != 0 ? 15 : ranged(number_at(r + 8), 1, 4294967295u) ? 0 : 17;
+    static const uint8_t none[4] = {0};
+    if (is_first) {
+        int form = r[0] == 0x52 && r[1] == 0x56 && r[2] == 0 && ranged(r[3], 1, 2) && memcmp(r + 4, none, 4) == 0;
+        return !form ? 15 : ranged(number_at(r + 8), 1, 4294967295u) ? 0 : 17;
+    }
     return r[0] == 0x52 && r[1] == 0x56 && ranged(r[2], 1, 11) && r[5] <= 13 && r[6] <= 31 && r[7] <= 31 ? 0 : 15;
 }
 
@@ -125,10 +127,12 @@ static uint32_t try_judge(const uint8_t *bytes, size_t length, size_t count)
 
 /* ---- tapes */
 
+/* Of edition 1 or 2. */
 static void put_header(uint8_t *r)
 {
     static const uint8_t header[8] = {0x52, 0x56, 0, 1, 0, 0, 0, 0};
     memcpy(r, header, 8);
+    r[3] = (uint8_t)(1 + below(2));
     put_number(r + 8, 1 + below(4294967295u));
 }
 

@@ -4,7 +4,7 @@
     python3 tools/tape_cases.py            write crates/tape_cases/data/NN and crates/tape_cases/stdout
     python3 tools/tape_cases.py --check    compare them with what is stored; exit status 1 on a difference
 
-It is written from document 01 ("Tape", "Numbers of refusal and their order") and shares nothing with the library. docs/TAPE.md has the form of a case.
+It is written from document 01 ("Tape", "Numbers of refusal and their order") and request 4 (the editions are 1 and 2), and shares nothing with the library. docs/TAPE.md has the form of a case.
 """
 import pathlib
 import struct
@@ -20,7 +20,7 @@ def fault(place, fields):
     """15 or 17 for op, a, b, code, running, released, value at a place that is a multiple of 16; 0 for a record."""
     op, a, b, code, running, released, value = fields
     if place == 0:
-        if (op, a, b, code, running, released) != (0, 1, 0, 0, 0, 0):
+        if (op, b, code, running, released) != (0, 0, 0, 0, 0) or a not in (1, 2):
             return 15
         return 0 if value in range(1, 4294967296) else 17
     return 0 if op in range(1, 12) and code in range(14) and running in range(32) and released in range(32) else 15

@@ -13,7 +13,7 @@ enum { C_FOUND, C_END = 1 };
 static inline int c_fault(size_t at, const c_record *r)
 {
     if (at == 0) {
-        if (r->op != 0 || r->a != 1 || r->b != 0 || r->code != 0 || r->running != 0 || r->released != 0)
+        if (r->op != 0 || r->a < 1 || r->a > 2 || r->b != 0 || r->code != 0 || r->running != 0 || r->released != 0)
             return 15;
         return r->value >= 1 && r->value <= 4294967295u ? 0 : 17;
     }

@@ -32,7 +32,7 @@ JudgementTells s j = Tells s (j .seed) (status-of (j .verdict)) (number-of (j .v
 
 refused-tells : {s : List ℕ} {seed : ℕ} {e : Refusal} → FirstRefused s seed e → Tells s seed 2 (e .code) (e .number ∷ e .place ∷ [])
 refused-tells (no-header h) = no-record 0 0 (no-header h)
-refused-tells (bad-seed value rest q l n) = no-seed (bad-seed value rest q l n)
+refused-tells (bad-seed edition value rest h q l n) = no-seed (bad-seed edition value rest h q l n)
 refused-tells (no-command seed rs rest b h) = no-record _ _ (no-command seed rs rest b h)
 
 -- ## Of every byte string the judgement tells one of these
@@ -72,7 +72,7 @@ tells-judged {s = s} {seed = seed} (no-seed a) =
 -- A refusal's number is 15 or 17, and none of the other two.
 pub stops-not : {s : List ℕ} {seed : ℕ} {e : Refusal} (n : ℕ) → 15 ≢ n → 17 ≢ n → FirstRefused s seed e → e .code ≢ n
 stops-not n a b (no-header h) = a
-stops-not n a b (bad-seed value rest q l k) = b
+stops-not n a b (bad-seed edition value rest h q l k) = b
 stops-not n a b (no-command seed rs rest g h) = a
 
 -- ## So the number alone tells which it is

@@ -20,7 +20,7 @@ use Rattle.rules.specs.Run as rules
 use Rattle.rules.proofs.Tests.{both-true}
 use Rattle.rules.proofs.Words.{All}
 use Rattle.record.specs.declared.Record.{Record}
-use Rattle.record.specs.Form.{bytesOf, recordOf, headerOf, marked, isSeed, headerFields, commandFields}
+use Rattle.record.specs.Form.{bytesOf, recordOf, headerOf, marked, isEdition, isSeed, headerFields, commandFields}
 use Rattle.record.specs.Fault.{faultOf}
 use Rattle.record.proofs.Faults.{own-fault}
 use Rattle.record.proofs.RoundTrip.{fields-back, bytes-spelt, sixteen-long, value-kept}
@@ -63,9 +63,9 @@ command-right : (at : ℕ) (r : Record) → at ≢ 0 → commandFields r ≡ tru
 unfolding faultOf
 command-right at r n k = rw (ne-eqb at 0 n, k)
 
-header-right : (seed : ℕ) → isSeed seed ≡ true → faultOf 0 (headerOf seed) ≡ 0
+header-right : (edition seed : ℕ) → isEdition edition ≡ true → isSeed seed ≡ true → faultOf 0 (headerOf edition seed) ≡ 0
 unfolding faultOf
-header-right seed k = rw k
+header-right edition seed h k = rw (h, k)
 
 seed-small : (seed : ℕ) → isSeed seed ≡ true → seed < 18446744073709551616
 seed-small seed k = let o : seed ≤ 4294967295 = leb-true seed 4294967295 (both-true (leb 1 seed) (leb seed 4294967295) k .1) in omega arith
@@ -97,24 +97,24 @@ past s (r ∷ rs) m n last seed g f front rest es l o el eg k a =
     (e ∙ sym (append-assoc front (bytesOf r) (tapeOf rs ++ rest))) w (omega arith) (omega arith) refl (k .1) (others a))
 
 -- the header is passed
-headed-verdict : (s : List ℕ) (seed : ℕ) (rest : List ℕ) → s ≡ bytesOf (headerOf seed) ++ rest → isSeed seed ≡ true → verdict-of s
-    ≡ judged-from fresh 1 seed (T.answers (length s) s 16)
+headed-verdict : (s : List ℕ) (edition seed : ℕ) (rest : List ℕ) → s ≡ bytesOf (headerOf edition seed) ++ rest → isEdition edition ≡ true
+    → isSeed seed ≡ true → verdict-of s ≡ judged-from fresh 1 seed (T.answers (length s) s 16)
 unfolding verdict-of judged-from
-headed-verdict s seed rest e k =
-    let d : readOf s 0 ≡ Found (headerOf seed) 16 = ap (λ (x : List ℕ). readOf x 0) e
-    ∙ found-there [] rest 0 (headerOf seed) refl refl (header-right seed k) (seed-small seed k) in
+headed-verdict s edition seed rest e h k =
+    let d : readOf s 0 ≡ Found (headerOf edition seed) 16 = ap (λ (x : List ℕ). readOf x 0) e
+    ∙ found-there [] rest 0 (headerOf edition seed) refl refl (header-right edition seed h k) (seed-small seed k) in
     let q : suc (length s) - 1 ≡ length s = omega arith in
-    rw (one-read (suc (length s)) s 0 (Found (headerOf seed) 16) (omega arith) d, q)
+    rw (one-read (suc (length s)) s 0 (Found (headerOf edition seed) 16) (omega arith) d, q)
 
 module _ (s : List ℕ) (seed : ℕ) (rs : List Record) (rest : List ℕ) (b : Begins s seed rs rest) where
   long : length s ≡ 16 * suc (length rs) + length rest
-  long = ap (λ (x : List ℕ). length x) (b .bytes) ∙ length-append (tapeOf (headerOf seed ∷ rs)) rest ∙ omega (arith, tape-long (headerOf seed ∷ rs))
+  long = ap (λ (x : List ℕ). length x) (b .bytes) ∙ length-append (tapeOf (headerOf (b .edition) seed ∷ rs)) rest ∙ omega (arith, tape-long (headerOf (b .edition) seed ∷ rs))
 
   passed : verdict-of s ≡ judged-from (behind rs) (suc (length rs)) seed (T.answers (length s - length rs) s (16 * suc (length rs)))
   passed =
-      let e : s ≡ bytesOf (headerOf seed) ++ (tapeOf rs ++ rest) = b .bytes ∙ append-assoc (bytesOf (headerOf seed)) (tapeOf rs) rest in
-      headed-verdict s seed (tapeOf rs ++ rest) e (b .seeded)
-      ∙ (past s rs fresh 1 (suc (length rs)) seed (length s) (length s - length rs) (bytesOf (headerOf seed)) rest e (sixteen-long (headerOf seed))
+      let e : s ≡ bytesOf (headerOf (b .edition) seed) ++ (tapeOf rs ++ rest) = b .bytes ∙ append-assoc (bytesOf (headerOf (b .edition) seed)) (tapeOf rs) rest in
+      headed-verdict s (b .edition) seed (tapeOf rs ++ rest) e (b .known) (b .seeded)
+      ∙ (past s rs fresh 1 (suc (length rs)) seed (length s) (length s - length rs) (bytesOf (headerOf (b .edition) seed)) rest e (sixteen-long (headerOf (b .edition) seed))
       (omega arith) (omega arith) (omega (arith, long)) (b .commands) (b .agree))
 
   -- the next answer of the reader
@@ -138,37 +138,37 @@ differs-judged s seed d a =
     let r = a .r in
     let n : alike (kept-on r) (kept (answer (behind rs) (command-of r))) ≡ false =
     unlike (kept-on r) (kept (answer (behind rs) (command-of r))) (a .differs) in
-    let l : length (tapeOf (headerOf seed ∷ rs)) ≡ 16 * suc (length rs) = tape-long (headerOf seed ∷ rs) in
+    let l : length (tapeOf (headerOf (a .begins .edition) seed ∷ rs)) ≡ 16 * suc (length rs) = tape-long (headerOf (a .begins .edition) seed ∷ rs) in
     let e : readOf s (16 * suc (length rs)) ≡ Found r (16 * suc (length rs) + 16) =
     ap (λ (x : List ℕ). readOf x (16 * suc (length rs))) (a .begins .bytes)
-    ∙ found-there (tapeOf (headerOf seed ∷ rs)) (a .rest) (16 * suc (length rs)) r l (omega arith)
+    ∙ found-there (tapeOf (headerOf (a .begins .edition) seed ∷ rs)) (a .rest) (16 * suc (length rs)) r l (omega arith)
     (command-right (16 * suc (length rs)) r (λ z. omega arith) (a .command .0)) (a .command .1) in
     then s seed rs (bytesOf r ++ a .rest) (a .begins) (Found r (16 * suc (length rs) + 16)) e ∙ rw (n, ne-eqb (suc (length rs)) 0 (λ z. omega arith), a .told)
 
 -- a header whose value is no seed
-module _ (s : List ℕ) (value : ℕ) (rest : List ℕ) (e : s ≡ bytesOf (headerOf value) ++ rest) (small : value < 18446744073709551616) where
-  at-first : take 16 s ≡ bytesOf (headerOf value)
-  at-first = ap (λ (l : List ℕ). take 16 l) e ∙ take-at (bytesOf (headerOf value)) rest 16 (sixteen-long (headerOf value))
+module _ (s : List ℕ) (edition value : ℕ) (rest : List ℕ) (known : isEdition edition ≡ true) (e : s ≡ bytesOf (headerOf edition value) ++ rest) (small : value < 18446744073709551616) where
+  at-first : take 16 s ≡ bytesOf (headerOf edition value)
+  at-first = ap (λ (l : List ℕ). take 16 l) e ∙ take-at (bytesOf (headerOf edition value)) rest 16 (sixteen-long (headerOf edition value))
 
   bad-value : recordOf (take 16 s) .value ≡ value
-  bad-value = ap (λ (l : List ℕ). recordOf l .value) at-first ∙ ap (λ (r : Record). r .value) (fields-back (headerOf value) small)
+  bad-value = ap (λ (l : List ℕ). recordOf l .value) at-first ∙ ap (λ (r : Record). r .value) (fields-back (headerOf edition value) small)
 
-  bad-fault : isSeed value ≡ false → faultOf 0 (headerOf value) ≡ 17
+  bad-fault : isSeed value ≡ false → faultOf 0 (headerOf edition value) ≡ 17
   unfolding faultOf
-  bad-fault n = rw n
+  bad-fault n = rw (known, n)
 
   bad-read : isSeed value ≡ false → readOf s 0 ≡ Refused 17
   bad-read n =
-      let l : 16 ≤ length s = rw (e, length-append (bytesOf (headerOf value)) rest, sixteen-long (headerOf value)) (omega arith) in
+      let l : 16 ≤ length s = rw (e, length-append (bytesOf (headerOf edition value)) rest, sixteen-long (headerOf edition value)) (omega arith) in
       sym (read-judged s 0 refl (omega arith) (λ q. omega arith) l) ∙ ap (judged 0) at-first
-      ∙ sym (judged-not 0 (bytesOf (headerOf value)) 17 (sym (own-fault 0 (headerOf value) small ∙ bad-fault n)) (λ q. omega arith))
+      ∙ sym (judged-not 0 (bytesOf (headerOf edition value)) 17 (sym (own-fault 0 (headerOf edition value) small ∙ bad-fault n)) (λ q. omega arith))
 
 stops-judged : (s : List ℕ) (seed : ℕ) (e : Refusal) → FirstRefused s seed e → verdict-of s ≡ record { seed = seed; verdict = Malformed e }
 unfolding judged-from verdict-of
 stops-judged s seed e (no-header h) = rw (one-read (suc (length s)) s 0 (Refused 15) (omega arith) h, h)
-stops-judged s seed e (bad-seed value rest q l n) =
-    let h = bad-read s value rest q l n in
-    rw (one-read (suc (length s)) s 0 (Refused 17) (omega arith) h, h, bad-value s value rest q l)
+stops-judged s seed e (bad-seed edition value rest k q l n) =
+    let h = bad-read s edition value rest k q l n in
+    rw (one-read (suc (length s)) s 0 (Refused 17) (omega arith) h, h, bad-value s edition value rest k q l)
 stops-judged s seed e (no-command seed′ rs rest b h) = then s seed′ rs rest b (Refused 15) h
 
 -- Whatever is said so of a tape is its judgement.
@@ -233,7 +233,7 @@ module _ (s : List ℕ) (small : (i : ℕ) → getD s i 0 < 256) where
     left : drop (16 * suc (length rs)) s ≡ rest
     left =
         ap (λ (x : List ℕ). drop (16 * suc (length rs)) x) (b .bytes)
-        ∙ drop-at (tapeOf (headerOf seed ∷ rs)) rest (16 * suc (length rs)) (tape-long (headerOf seed ∷ rs))
+        ∙ drop-at (tapeOf (headerOf (b .edition) seed ∷ rs)) rest (16 * suc (length rs)) (tape-long (headerOf (b .edition) seed ∷ rs))
 
     module _ (r : Record) (at : ℕ) (e : readOf s (16 * suc (length rs)) ≡ Found r at) where
       there : IsThere s (16 * suc (length rs)) r at
@@ -249,9 +249,11 @@ module _ (s : List ℕ) (small : (i : ℕ) → getD s i 0 < 256) where
       more : kept-on r ≡ kept (answer (behind rs) (command-of r)) → Begins s seed (rs ++ (r ∷ [])) (drop 16 rest)
       more a =
           record {
+            edition = b .edition;
+            known = b .known;
             seeded = b .seeded;
             commands = all-more CommandRecord rs r (b .commands) is-command;
-            bytes = b .bytes ∙ ap (λ (x : List ℕ). tapeOf (headerOf seed ∷ rs) ++ x) split ∙ sym (tape-more (headerOf seed ∷ rs) r (drop 16 rest));
+            bytes = b .bytes ∙ ap (λ (x : List ℕ). tapeOf (headerOf (b .edition) seed ∷ rs) ++ x) split ∙ sym (tape-more (headerOf (b .edition) seed ∷ rs) r (drop 16 rest));
             agree =
                 map-more kept-on rs r ∙ rw (b .agree, a)
                 (sym (ap (λ (cs : List Command). map kept (answers fresh cs)) (map-more command-of rs r)
@@ -267,10 +269,12 @@ module _ (s : List ℕ) (small : (i : ℕ) → getD s i 0 < 256) where
             rest = drop 16 rest;
             begins =
                 record {
+                  edition = b .edition;
+                  known = b .known;
                   seeded = b .seeded;
                   commands = b .commands;
                   bytes = b .bytes
-                      ∙ ap (λ (x : List ℕ). tapeOf (headerOf seed ∷ rs) ++ x) split;
+                      ∙ ap (λ (x : List ℕ). tapeOf (headerOf (b .edition) seed ∷ rs) ++ x) split;
                   agree = b .agree;
                 };
             command = is-command;
@@ -285,7 +289,7 @@ module _ (s : List ℕ) (small : (i : ℕ) → getD s i 0 < 256) where
         record {
           records = rs;
           begins = record
-              { seeded = b .seeded; commands = b .commands; bytes = b .bytes ∙ ap (λ (x : List ℕ). tapeOf (headerOf seed ∷ rs) ++ x) z; agree = b .agree };
+              { edition = b .edition; known = b .known; seeded = b .seeded; commands = b .commands; bytes = b .bytes ∙ ap (λ (x : List ℕ). tapeOf (headerOf (b .edition) seed ∷ rs) ++ x) z; agree = b .agree };
           count =
               refl;
         }
@@ -339,31 +343,37 @@ header-fields r e = go (headerFields r) (isSeed (r .value)) e
     go true false z = absurd (omega arith)
     go false v z = absurd (omega arith)
 
-made : {op a b code running released : ℕ} → op ≡ 0 → a ≡ 1 → b ≡ 0 → code ≡ 0 → running ≡ 0 → released ≡ 0 → (v : ℕ)
-    → _≡_ {A = Record} (record { op = op; a = a; b = b; code = code; running = running; released = released; value = v }) (headerOf v)
-made p q r s t u v = cc
+made : {op a b code running released : ℕ} → op ≡ 0 → b ≡ 0 → code ≡ 0 → running ≡ 0 → released ≡ 0 → (v : ℕ)
+    → _≡_ {A = Record} (record { op = op; a = a; b = b; code = code; running = running; released = released; value = v }) (headerOf a v)
+made p r s t u v = cc
 
-header-is : (r : Record) → headerFields r ≡ true → r ≡ headerOf (r .value)
+header-is : (r : Record) → headerFields r ≡ true → (r ≡ headerOf (r .a) (r .value)) × (isEdition (r .a) ≡ true)
 header-is r e =
-    let f = both-true (eqb (r .op) 0 && eqb (r .a) 1 && eqb (r .b) 0 && eqb (r .code) 0 && eqb (r .running) 0) (eqb (r .released) 0) e in
-    let g = both-true (eqb (r .op) 0 && eqb (r .a) 1 && eqb (r .b) 0 && eqb (r .code) 0) (eqb (r .running) 0) (f .0) in
-    let h = both-true (eqb (r .op) 0 && eqb (r .a) 1 && eqb (r .b) 0) (eqb (r .code) 0) (g .0) in
-    let i = both-true (eqb (r .op) 0 && eqb (r .a) 1) (eqb (r .b) 0) (h .0) in
-    let j = both-true (eqb (r .op) 0) (eqb (r .a) 1) (i .0) in
-    made (eqb-true (r .op) 0 (j .0)) (eqb-true (r .a) 1 (j .1)) (eqb-true (r .b) 0 (i .1)) (eqb-true (r .code) 0 (h .1)) (eqb-true (r .running) 0 (g .1))
-    (eqb-true (r .released) 0 (f .1)) (r .value)
+    let known = isEdition (r .a) in
+    let f = both-true (eqb (r .op) 0 && known && eqb (r .b) 0 && eqb (r .code) 0 && eqb (r .running) 0) (eqb (r .released) 0) e in
+    let g = both-true (eqb (r .op) 0 && known && eqb (r .b) 0 && eqb (r .code) 0) (eqb (r .running) 0) (f .0) in
+    let h = both-true (eqb (r .op) 0 && known && eqb (r .b) 0) (eqb (r .code) 0) (g .0) in
+    let i = both-true (eqb (r .op) 0 && known) (eqb (r .b) 0) (h .0) in
+    let j = both-true (eqb (r .op) 0) known (i .0) in (
+      made (eqb-true (r .op) 0 (j .0)) (eqb-true (r .b) 0 (i .1)) (eqb-true (r .code) 0 (h .1)) (eqb-true (r .running) 0 (g .1))
+          (eqb-true (r .released) 0 (f .1)) (r .value),
+      j .1,
+    )
 
 header-begins : (s : List ℕ) (small : (i : ℕ) → getD s i 0 < 256) (r : Record) (at : ℕ) → readOf s 0 ≡ Found r at → Begins s (r .value) [] (drop 16 s)
 unfolding answers
 header-begins s small r at e =
     let k = is-there s small 0 r at e in
     let h = header-fields r (accepted (length s) 0 r (k .taken) .fields) in
+    let k′ = header-is r (h .0) in
     record {
+      edition = r .a;
+      known = k′ .1;
       seeded = h .1;
       commands = tt;
       bytes =
           sym (take-append-drop 16 s) ∙ ap (λ (x : List ℕ). x ++ drop 16 s)
-          (k .bytes ∙ ap bytesOf (header-is r (h .0)) ∙ sym (append-nil (bytesOf (headerOf (r .value)))));
+          (k .bytes ∙ ap bytesOf (k′ .0) ∙ sym (append-nil (bytesOf (headerOf (r .a) (r .value)))));
       agree = refl;
     }
 
@@ -394,9 +404,10 @@ header-refused s small c e = go (stands s 0) e
     bad : 16 ≤ length s → readOf s 0 ≡ Refused 17 → FirstRefused s (recordOf p .value) (record { code = 17; number = 0; place = 0 })
     bad l q =
         let k = seventeen-bytes p (read-judged s 0 refl (omega arith) (λ z. omega arith) l ∙ q) in
-        let b : bytesOf (headerOf (recordOf p .value)) ≡ p = ap bytesOf (sym (header-is (recordOf p) (k .fields)))
+        let h = header-is (recordOf p) (k .fields) in
+        let b : bytesOf (headerOf (recordOf p .a) (recordOf p .value)) ≡ p = ap bytesOf (sym (h .0))
         ∙ bytes-spelt p (length-take-le 16 s l) (part-small s small 0) (k .mark) in
-        bad-seed (recordOf p .value) (drop 16 s) (sym (take-append-drop 16 s) ∙ ap (λ (x : List ℕ). x ++ drop 16 s) (sym b))
+        bad-seed (recordOf p .a) (recordOf p .value) (drop 16 s) (h .1) (sym (take-append-drop 16 s) ∙ ap (λ (x : List ℕ). x ++ drop 16 s) (sym b))
         (value-kept p (part-small s small 0)) (k .value)
 
     go : {x : Read} → Stands s 0 x → x ≡ Refused c → FirstRefused s (seed-shown c (recordOf p .value) 0) (record { code = c; number = 0; place = 0 })
@@ -425,7 +436,7 @@ judged-says s small = go (readOf s 0) refl
 
 stops-number : (s : List ℕ) (seed : ℕ) (e : Refusal) → FirstRefused s seed e → RefusedWith e
 stops-number s seed e (no-header h) = fifteen refl
-stops-number s seed e (bad-seed value rest q l n) = seventeen refl refl
+stops-number s seed e (bad-seed edition value rest h q l n) = seventeen refl refl
 stops-number s seed e (no-command seed′ rs rest b h) = fifteen refl
 
 -- Where a byte string is refused the number is 15, or it is 17 and the record is the header.
@@ -482,18 +493,19 @@ module _ (h k rest : List ℕ) (eh : length h ≡ 16) (ek : length k ≡ 16) whe
   same-answers zero at o = refl
   same-answers (suc f) at o = both (same-read at o) (ap (T.answers f (h ++ rest)) (same-next at o) ∙ same-answers f (nextAt (k ++ rest) at) (further at o))
 
--- The seed is shown, and not used: a tape with another good seed in its header has the same verdict.
-pub seed-only-shown : (seed seed′ : ℕ) (rest : List ℕ) → isSeed seed ≡ true → isSeed seed′ ≡ true
-    → verdict-of (bytesOf (headerOf seed) ++ rest) ≡ record { seed = seed; verdict = verdict-of (bytesOf (headerOf seed′) ++ rest) .verdict }
-seed-only-shown seed seed′ rest g g′ =
-    go (bytesOf (headerOf seed)) (bytesOf (headerOf seed′)) refl refl (sixteen-long (headerOf seed)) (sixteen-long (headerOf seed′))
+-- The seed is shown, and not used, and the edition is not asked for: a tape with another good seed, and another edition, in its header has the same verdict.
+pub seed-only-shown : (edition edition′ seed seed′ : ℕ) (rest : List ℕ) → isEdition edition ≡ true → isEdition edition′ ≡ true
+    → isSeed seed ≡ true → isSeed seed′ ≡ true
+    → verdict-of (bytesOf (headerOf edition seed) ++ rest) ≡ record { seed = seed; verdict = verdict-of (bytesOf (headerOf edition′ seed′) ++ rest) .verdict }
+seed-only-shown edition edition′ seed seed′ rest known known′ g g′ =
+    go (bytesOf (headerOf edition seed)) (bytesOf (headerOf edition′ seed′)) refl refl (sixteen-long (headerOf edition seed)) (sixteen-long (headerOf edition′ seed′))
   where
-    go : (h k : List ℕ) → h ≡ bytesOf (headerOf seed) → k ≡ bytesOf (headerOf seed′) → length h ≡ 16 → length k ≡ 16
+    go : (h k : List ℕ) → h ≡ bytesOf (headerOf edition seed) → k ≡ bytesOf (headerOf edition′ seed′) → length h ≡ 16 → length k ≡ 16
         → verdict-of (h ++ rest) ≡ record { seed = seed; verdict = verdict-of (k ++ rest) .verdict }
     go h k eh ek lh lk =
         let a : T.answers (length (h ++ rest)) (h ++ rest) 16 ≡ T.answers (length (k ++ rest)) (k ++ rest) 16 =
         ap (λ (n : ℕ). T.answers n (h ++ rest) 16) (same-long h k rest lh lk) ∙ same-answers h k rest lh lk (length (k ++ rest)) 16 (omega arith) in
-        headed-verdict (h ++ rest) seed rest (ap (λ (l : List ℕ). l ++ rest) eh) g
+        headed-verdict (h ++ rest) edition seed rest (ap (λ (l : List ℕ). l ++ rest) eh) known g
         ∙ seed-kept (T.answers (length (h ++ rest)) (h ++ rest) 16) fresh 1 seed seed′ (omega arith)
         ∙ ap (λ (j : Judgement). let z : Judgement = record { seed = seed; verdict = j .verdict } in z)
-        (ap (judged-from fresh 1 seed′) a ∙ sym (headed-verdict (k ++ rest) seed′ rest (ap (λ (l : List ℕ). l ++ rest) ek) g′))
+        (ap (judged-from fresh 1 seed′) a ∙ sym (headed-verdict (k ++ rest) edition′ seed′ rest (ap (λ (l : List ℕ). l ++ rest) ek) known′ g′))

@@ -54,15 +54,32 @@ keeps code running released = record { code = code; running = record { 0 = runni
 abbrev header-of : List ℕ → List ℕ
 header-of value = (82 ∷ 86 ∷ 0 ∷ 1 ∷ 0 ∷ 0 ∷ 0 ∷ 0 ∷ []) ++ value
 
--- Of a header that is right but for its seed that is shown, and of no other: 2^32, a number of eight bytes, the largest; the edition 2, and a second header.
+-- a header of an edition, with a seed of one byte
+abbrev edition-of : ℕ → ℕ → List ℕ
+edition-of edition seed = sixteen 0 edition 0 seed 0 0 0
+
+-- Of a header that is right but for its seed that is shown, and of no other: 2^32, a number of eight bytes, the largest, and one of edition 2; the edition 3,
+-- and a second header.
 pub seeds :
     (verdict-of (header-of (0 ∷ 0 ∷ 0 ∷ 0 ∷ 1 ∷ 0 ∷ 0 ∷ 0 ∷ []) ++ sixteen 1 1 3 0 0 0 0) ≡ says 4294967296 (refused 17 0 0))
     × (verdict-of (header-of (1 ∷ 2 ∷ 3 ∷ 4 ∷ 5 ∷ 6 ∷ 7 ∷ 8 ∷ [])) ≡ says 578437695752307201 (refused 17 0 0))
     × (verdict-of (header-of (255 ∷ 255 ∷ 255 ∷ 255 ∷ 255 ∷ 255 ∷ 255 ∷ 255 ∷ [])) ≡ says 18446744073709551615 (refused 17 0 0))
-    × (verdict-of (82 ∷ 86 ∷ 0 ∷ 2 ∷ 0 ∷ 0 ∷ 0 ∷ 0 ∷ 9 ∷ 0 ∷ 0 ∷ 0 ∷ 1 ∷ 0 ∷ 0 ∷ 0 ∷ []) ≡ says 0 (refused 15 0 0))
+    × (verdict-of (82 ∷ 86 ∷ 0 ∷ 2 ∷ 0 ∷ 0 ∷ 0 ∷ 0 ∷ 9 ∷ 0 ∷ 0 ∷ 0 ∷ 1 ∷ 0 ∷ 0 ∷ 0 ∷ []) ≡ says 4294967305 (refused 17 0 0))
+    × (verdict-of (82 ∷ 86 ∷ 0 ∷ 3 ∷ 0 ∷ 0 ∷ 0 ∷ 0 ∷ 9 ∷ 0 ∷ 0 ∷ 0 ∷ 1 ∷ 0 ∷ 0 ∷ 0 ∷ []) ≡ says 0 (refused 15 0 0))
     × (verdict-of (header 7 ++ header-of (1 ∷ 2 ∷ 3 ∷ 4 ∷ 5 ∷ 6 ∷ 7 ∷ 8 ∷ [])) ≡ says 7 (refused 15 1 16))
 unfolding verdict-of judged-from readOf judged endOf nextAt recordOf
-seeds = (refl, refl, refl, refl, refl)
+seeds = (refl, refl, refl, refl, refl, refl)
+
+-- The editions: 1 and 2 are read, and no other; a header of edition 2 behind place 0 is no record.
+pub editions :
+    (verdict-of (edition-of 1 7) ≡ says 7 (Agrees 0))
+    × (verdict-of (edition-of 2 9) ≡ says 9 (Agrees 0))
+    × (verdict-of (edition-of 0 9) ≡ says 0 (refused 15 0 0))
+    × (verdict-of (edition-of 3 9) ≡ says 0 (refused 15 0 0))
+    × (verdict-of (edition-of 255 9) ≡ says 0 (refused 15 0 0))
+    × (verdict-of (edition-of 1 7 ++ edition-of 2 9) ≡ says 7 (refused 15 1 16))
+unfolding verdict-of judged-from readOf judged endOf nextAt recordOf
+editions = (refl, refl, refl, refl, refl, refl)
 
 -- No byte; a seed of 0; the header alone; the walk; its last record with released 0; a byte behind it; the start with another running task, behind which
 -- nothing is looked at; and a record without the mark.

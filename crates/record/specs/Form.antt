@@ -7,10 +7,9 @@ use lib.ListN.{getD}
 use lib.Dec.{leb, eqb}
 use Rattle.record.specs.declared.Record.{Record}
 
--- The ranges of the fields, each in this one place: the edition, the last op, the last code, the last task, the last
--- seed.
-abbrev pub edition : ℕ
-edition = 1
+-- The ranges of the fields, each in this one place: the last edition, op, code, task and seed.
+abbrev pub lastEdition : ℕ
+lastEdition = 2
 
 abbrev pub lastOp : ℕ
 lastOp = 11
@@ -59,10 +58,14 @@ recordOf p =
 abbrev pub marked : List ℕ → Bool
 marked p = eqb (getD p 0 0) 82 && eqb (getD p 1 0) 86
 
--- a header's fields, its value aside: op 0, a = 1 (edition), the next four bytes 0
+-- an edition, by which the commands of a tape were drawn: 1, or 2, by even odds (request 4)
+abbrev pub isEdition : ℕ → Bool
+isEdition e = leb 1 e && leb e lastEdition
+
+-- a header's fields, its value aside: op 0, a is an edition, the next four bytes 0
 abbrev pub headerFields : Record → Bool
 headerFields r =
-    eqb (r .op) 0 && eqb (r .a) edition && eqb (r .b) 0 && eqb (r .code) 0 && eqb (r .running) 0 && eqb (r .released) 0
+    eqb (r .op) 0 && isEdition (r .a) && eqb (r .b) 0 && eqb (r .code) 0 && eqb (r .running) 0 && eqb (r .released) 0
 
 -- a seed: 1..4294967295
 abbrev pub isSeed : ℕ → Bool
@@ -75,9 +78,9 @@ commandFields r =
     leb 1 (r .op) && leb (r .op) lastOp && leb (r .code) lastCode && leb (r .running) lastTask && leb (r .released)
     lastTask
 
--- the header of a tape made with a seed
-abbrev pub headerOf : ℕ → Record
-headerOf seed = record { op = 0; a = edition; b = 0; code = 0; running = 0; released = 0; value = seed }
+-- the header of a tape of an edition, made with a seed
+abbrev pub headerOf : ℕ → ℕ → Record
+headerOf edition seed = record { op = 0; a = edition; b = 0; code = 0; running = 0; released = 0; value = seed }
 
 -- 16 bytes are a header
 abbrev pub isHeader : List ℕ → Bool

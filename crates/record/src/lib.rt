@@ -14,7 +14,7 @@ ghost use Rattle.record.specs.Fault.{headerFault, commandFault, faultOf}
 pub const RECORD_BYTES: usize = 16;
 
 // The ranges of the fields, each in this one place (and in specs/Form).
-const EDITION: u8 = 1;
+const LAST_EDITION: u8 = 2;
 
 const LAST_OP: u8 = 11;
 
@@ -36,13 +36,13 @@ pub struct Record {
     pub value: u64,
 }
 
-// The header of a tape made with `seed`. A bad seed is the writer's to refuse.
-pub fn header(seed: u64) -> Record
-    ensures { λ r. ⌜ r ≡ headerOf seed ⌝ }
+// The header of a tape of that edition, made with `seed`. A bad edition or seed is the writer's to refuse.
+pub fn header(edition: u8, seed: u64) -> Record
+    ensures { λ r. ⌜ r ≡ headerOf edition seed ⌝ }
 {
     Record {
         op: 0,
-        a: EDITION,
+        a: edition,
         b: 0,
         code: 0,
         running: 0,
@@ -160,7 +160,7 @@ fn header_fields(r: Record) -> bool
     ensures { λ t. ⌜ t ≡ headerFields r ⌝ }
 {
     (r.op == 0)
-        & (r.a == EDITION)
+        & ((1 <= r.a) & (r.a <= LAST_EDITION))
         & (r.b == 0)
         & (r.code == 0)
         & (r.running == 0)

@@ -17,7 +17,7 @@ use lib.Seq.{drop-drop, take-at, drop-at, getD-take, getD-drop, length-take-le}
 use lib.Dec.{eqb, ltb, lit<}
 use borrow.Author.Tests.{eq-eqb, ne-eqb, le-leb, eqb-true, eqb-false, ltb-true, ltb-false}
 use Rattle.record.specs.declared.Record.{Record}
-use Rattle.record.specs.Form.{bytesOf, recordOf, commandFields, headerOf}
+use Rattle.record.specs.Form.{bytesOf, recordOf, commandFields, isEdition, headerOf}
 use Rattle.record.specs.Fault.{faultOf}
 use Rattle.record.proofs.RoundTrip.{fields-back, bytes-spelt, sixteen-long, value-kept}
 use Rattle.record.proofs.Faults.{own-fault, unfaulted}
@@ -30,10 +30,11 @@ use Rattle.tape.proofs.Reading.{judged-is, read-judged, sixteen, Stands
 
 -- ---- What the writer takes
 
--- every seed has a header that is written at place 0
-pub header-taken : (n seed : ℕ) → 1 ≤ seed → seed ≤ 4294967295 → 16 ≤ n → writeCode n 0 (headerOf seed) ≡ 0
+-- every seed has a header of either edition that is written at place 0
+pub header-taken : (n edition seed : ℕ) → isEdition edition ≡ true → 1 ≤ seed → seed ≤ 4294967295 → 16 ≤ n → writeCode n 0 (headerOf edition seed) ≡ 0
 unfolding faultOf
-header-taken n seed h k l = accepts (record { whole = refl; fields = rw (le-leb 1 seed h, le-leb seed 4294967295 k); room = l })
+header-taken n edition seed e h k l =
+    accepts (record { whole = refl; fields = rw (e, le-leb 1 seed h, le-leb seed 4294967295 k); room = l })
 
 -- every command record is written at every whole place but 0 that has room
 pub command-taken : (n at : ℕ) (r : Record) → at % 16 ≡ 0 → (at ≡ 0 → ⊥) → commandFields r ≡ true → at + 16 ≤ n → writeCode n at r ≡ 0

@@ -78,6 +78,6 @@ fn fill(out: &mut [u8], records: u32)
 pub extern "C" fn tape_bench_write(out: &mut [u8], records: u32)
     ensures { λ _. ⌜ now (out .exit) ≡ filled (writeOf (now (out .entry)) 0 (headerOf 1)) records ⌝ }
 {
-    tape::write_at(out, 0, tape::header(1));
+    tape::write_at(out, 0, tape::header(1, 1));
     fill(out, records)
 }
