@@ -359,9 +359,9 @@ package body Tape_Inputs is
                  when others => Ticks'Last);
    end Some_Bad_Seed;
 
-   --  Record 0 is no header any more, or names edition 2, which was none before
-   --  change request 4.  In some cases its seed is bad too: then 15 comes
-   --  before 17.
+   --  Record 0 is no header any more, or names edition 2, which made it none
+   --  before change request 4.  In some cases its seed is bad too: then 15
+   --  comes before 17.
    procedure Damage_Header is
       F      : Fields := Fields_Of (Bytes_At (0));
       Bytes  : Record_Bytes;
