@@ -98,10 +98,10 @@ def bad_headers():
     for place in range(8):
         yield changed(HEADER + behind, (place, 5)), refused(15, 0)
     yield header(1, edition=0) + behind, refused(15, 0)
-    yield header(1, edition=2) + behind, refused(15, 0)
+    yield header(1, edition=3) + behind, refused(15, 0)
     for seed in (0, 2**32, 2**32 + 1, 2**63, 2**64 - 1):
         yield header(seed) + behind, refused(17, 0, seed)
-    yield header(0, edition=2), refused(15, 0)                                   # 17 is of a header else right
+    yield header(0, edition=3), refused(15, 0)                                   # 17 is of a header else right
     yield behind, refused(15, 0)
 
 

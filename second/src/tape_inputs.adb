@@ -359,8 +359,9 @@ package body Tape_Inputs is
                  when others => Ticks'Last);
    end Some_Bad_Seed;
 
-   --  Record 0 is no header any more.  In some cases its seed is bad too:
-   --  then 15 comes before 17.
+   --  Record 0 is no header any more, or names edition 2, which made it none
+   --  before change request 4.  In some cases its seed is bad too: then 15
+   --  comes before 17.
    procedure Damage_Header is
       F      : Fields := Fields_Of (Bytes_At (0));
       Bytes  : Record_Bytes;
@@ -390,6 +391,21 @@ package body Tape_Inputs is
       end if;
       Put_At (0, Bytes);
    end Damage_Header;
+
+   --  An edition that nobody has.
+   function Some_Other_Edition return Octet is
+     (case Below (4) is
+         when 0      => 0,
+         when 1      => 3,
+         when others => At_Least (3));
+
+   --  In the place of a header's edition, where the tape is so long.
+   procedure Put_Edition (By : Octet) is
+   begin
+      if Natural (Tape.Length) > 3 then
+         Tape (3) := By;
+      end if;
+   end Put_Edition;
 
    --  Two command records, the lower number first.
    procedure Some_Two (Lower, Higher : out Positive) is
@@ -489,6 +505,8 @@ package body Tape_Inputs is
    begin
       case What is
          when Right | Odd | Noise | Empty => null;
+         when Newer         => Put_Edition (2);
+         when Unknown       => Put_Edition (Some_Other_Edition);
          when Spoilt        => Spoil (Some_Number);
          when Twice         => Some_Two (Lower, Higher);
                                Spoil (Lower);
@@ -506,10 +524,11 @@ package body Tape_Inputs is
          when Appended      => Append_Some;
          when Shifted       => Shift_Some;
          when Flipped       => Flip;
+         when Editions      => raise Program_Error;  --  has its parts changed
       end case;
    end Change_As;
 
-   procedure Make (What : Kind; Length : Natural) is
+   procedure Make_As (What : Kind; Length : Natural) is
    begin
       if What = Noise then
          Make_Noise;
@@ -517,6 +536,16 @@ package body Tape_Inputs is
          Make_Right (What, Natural'Max (Length, Least_Length (What)));
       end if;
       Change_As (What);
+   end Make_As;
+
+   procedure Make (What : Kind; Length : Natural) is
+   begin
+      if What = Editions then
+         Make_As (Some_Kind, Length);
+         Change_As (if Chance (70) then Newer else Unknown);
+      else
+         Make_As (What, Length);
+      end if;
       for Byte of Tape loop
          Byte_IO.Put ((1 => Character'Val (Byte)));
       end loop;

@@ -10,7 +10,7 @@ package Tape_Inputs is
       Twice,          --  right but for two answers
       Unseen,         --  one answered as if an operand without a place were 0
       Lost,           --  a record dropped, doubled or out of its turn
-      Header,         --  a record 0 that is no header
+      Header,         --  a record 0 that is no header, or one of edition 2
       Damaged,        --  another record that is none
       Spoilt_First,   --  a wrong answer, and damage behind it
       Damaged_First,  --  damage, and a wrong answer behind it
@@ -20,9 +20,15 @@ package Tape_Inputs is
       Shifted,        --  a byte dropped or put in
       Flipped,        --  one bit changed, anywhere
       Noise,          --  no tape
-      Empty);         --  no byte
+      Empty,          --  no byte
+      Newer,          --  right, and the header names edition 2
+      Unknown,        --  right, and the header names an edition of nobody
+      Editions);      --  any kind before, the header's edition changed so
 
-   function Some_Kind return Kind;
+   --  One of those that document 01 has: a number makes the tape that it made
+   --  before change request 4.
+   function Some_Kind return Kind
+     with Post => Some_Kind'Result in Right .. Empty;
 
    --  How many command records: mostly few, at times thousands.
    function Some_Length return Natural;

@@ -50,11 +50,14 @@ package body Tapes is
        Value    => Value_Of (Bytes)));
 
    --  17 is for "a tape header else right whose value is not
-   --  1..4294967295", so 15 comes first.
+   --  1..4294967295", so 15 comes first: "Record for other editions, in its
+   --  old place" (change request 4).
    function Refusal_Of_Header (Bytes : Record_Bytes) return Code is
-      F : constant Fields := Fields_Of (Bytes);
+      F       : constant Fields := Fields_Of (Bytes);
+      Written : constant Record_Bytes :=
+        Bytes_Of (Header (F.Value, (if F.A in Known_Edition then F.A else 1)));
    begin
-      if Bytes /= Bytes_Of (Header (F.Value)) then
+      if Bytes /= Written then
          return Bad_Record;
       elsif F.Value not in 1 .. 4_294_967_295 then
          return Bad_Seed;

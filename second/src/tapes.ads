@@ -19,10 +19,14 @@ package Tapes is
       Value                     : Ticks := 0;
    end record;
 
+   --  "Tapes so made carry edition 2 in a; readers take 1 and 2 and refuse
+   --  others" (change request 4).
+   subtype Known_Edition is Octet range 1 .. 2;
+
    --  The header's fields: "op 0, a = 1 (edition), the next four bytes 0,
-   --  value = seed".
-   function Header (Seed : Ticks) return Fields is
-     ((Op => 0, A => 1, Value => Seed, others => 0));
+   --  value = seed"; in a any edition that is known.
+   function Header (Seed : Ticks; By : Known_Edition := 1) return Fields is
+     ((Op => 0, A => By, Value => Seed, others => 0));
 
    --  The bytes of a record, the mark in front, and back.
    function Bytes_Of (F : Fields) return Record_Bytes;

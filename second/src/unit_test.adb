@@ -160,16 +160,21 @@ procedure Unit_Test is
    procedure Check_Draw
      (Name : String; M : State; P : Profile; Seed : Word_32; Number : Code)
    is
-      Lent : Word_32 := Seed;
-      Got  : Code;
-      C    : Command;
+      Lent  : Word_32;
+      Got   : Code;
+      C     : Command;
+      Spent : Natural;
    begin
-      Draw (M, P, Lent, Got, C);
-      Check (Name, Ticks (Got), Ticks (Number));
-      if Number /= Accepted then
-         Check (Name & ", same seed", Ticks (Lent), Ticks (Seed));
-         Check (Name & ", op 0", Ticks (C.Op + C.A + C.B) + C.Value, 0);
-      end if;
+      for By in Edition loop
+         Lent := Seed;
+         Draw (By, M, P, Lent, Got, C, Spent);
+         Check (Name, Ticks (Got), Ticks (Number));
+         if Number /= Accepted then
+            Check (Name & ", same seed", Ticks (Lent), Ticks (Seed));
+            Check (Name & ", op 0", Ticks (C.Op + C.A + C.B) + C.Value, 0);
+            Check (Name & ", no draw", Ticks (Spent), 0);
+         end if;
+      end loop;
    end Check_Draw;
 
    --  "A draw: 1, 17, 18, 2."
@@ -198,6 +203,81 @@ procedure Unit_Test is
          Check_Draw ("weight 101", Started, Bad, 1, Bad_Profile);
       end loop;
    end Test_Draw_Refusals;
+
+   --  The seed after that many draws.
+   function Left (Seed : Word_32; Draws : Natural) return Word_32 is
+      Current : Word_32 := Seed;
+      Drawn   : Word_32;
+   begin
+      for I in 1 .. Draws loop
+         Advance (Current, Drawn);
+      end loop;
+      return Current;
+   end Left;
+
+   --  A choice is below its limit, and "The draws spent are told truly: the
+   --  seed left is the draw applied that many times" (READINGS-02, 4).
+   procedure Test_Choices is
+      Seed   : Word_32 := 2_863_311_531;
+      Before : Word_32;
+      N      : Word_32;
+      Choice : Word_32;
+      Spent  : Positive;
+   begin
+      for I in 1 .. 2000 loop
+         Advance (Seed, N);
+         N      := Word_32'Max (1, N / 2 ** (I mod 32));
+         Before := Seed;
+         Choose_Evenly (N, Seed, Choice, Spent);
+         Check ("a choice is below", Boolean'Pos (Choice < N), 1);
+         Check ("at most eight draws", Boolean'Pos (Spent <= 8), 1);
+         Check ("told truly", Ticks (Seed), Ticks (Left (Before, Spent)));
+         Check ("the last less 1, mod n", Ticks (Choice),
+                Ticks ((Seed - 1) mod N));
+      end loop;
+      for Start in Word_32 range 1 .. 1000 loop
+         Seed := Start * 4_294_961;
+         Choose_Evenly (1, Seed, Choice, Spent);
+         Check ("below 1", Ticks (Choice), 0);
+         Check ("below 1 spends one", Ticks (Spent), 1);
+      end loop;
+   end Test_Choices;
+
+   --  "every drawn command is accepted", by either edition, and the draws are
+   --  told truly.
+   procedure Test_Editions is
+      Seed, Before : Word_32;
+      M            : State;
+      Number       : Code;
+      C            : Command;
+      Result       : Answer;
+      Spent        : Natural;
+      Menu         : Profile := Even;
+   begin
+      for By in Edition loop
+         for Start in Word_32 range 1 .. 6 loop
+            M := Small_System;
+            Must (M, Op_Create, 3, 3);
+            Must (M, Op_Object, 7, 15);
+            Must (M, Op_Start, 0, 0);
+            Seed      := Start * 715_827_882;
+            Menu.Span := 999_527 / Start;
+            for I in 1 .. 2000 loop
+               Before := Seed;
+               Draw (By, M, Menu, Seed, Number, C, Spent);
+               Check ("drawn", Ticks (Number), 0);
+               Check ("told truly", Ticks (Seed),
+                      Ticks (Left (Before, Spent)));
+               Check ("three and more", Boolean'Pos (Spent in 3 .. 24), 1);
+               if By = 1 then
+                  Check ("three", Ticks (Spent), 3);
+               end if;
+               Step (M, C, Result);
+               Check ("accepted", Ticks (Result.Number), 0);
+            end loop;
+         end loop;
+      end loop;
+   end Test_Editions;
 
    --  How many of 300 draws in a state are of that kind.
    function Drawn_Count (M : State; Op : Drawn_Op) return Natural is
@@ -271,6 +351,8 @@ begin
    Test_Wakes_Left;
    Test_Draws;
    Test_Draw_Refusals;
+   Test_Choices;
+   Test_Editions;
    Test_End_Of_Clock;
    Test_Decimals;
    Put_Line ("unit_test: " & Image (Checks) & " checks, "
