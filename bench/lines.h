@@ -21,7 +21,7 @@ static void flush(void) {
 }
 
 /* a text, and a line that ends at `to` in the buffer */
-static inline void put_text(const char *text) {
+static void put_text(const char *text) {
     size_t n = strlen(text);
     memcpy(out + used, text, n);
     used += n;

@@ -1,6 +1,6 @@
 --  The stored run of edition 2, the second time: 100,000 commands drawn by
---  change request 4 and carried out at once, from each of two seeds.  It reads
---  nothing.  What it prints stands in second/README.md.
+--  change request 4 and carried out at once, a quarter of them from each of
+--  four seeds.  It reads nothing.  What it prints stands in second/README.md.
 
 with Byte_IO;   use Byte_IO;
 with Generator; use Generator;
@@ -8,8 +8,8 @@ with Machine;   use Machine;
 
 procedure Even2 is
 
-   Draws      : constant := 100_000;
-   Row_Length : constant := 10_000;  --  draws from one row to the next
+   Draws      : constant := 25_000;  --  from each seed
+   Row_Length : constant := 5_000;  --  draws from one row to the next
 
    type Command_List is array (Positive range <>) of Command;
 
@@ -29,10 +29,10 @@ procedure Even2 is
       (Op_Object, 7, 12, 0),
       (Op_Start, 0, 0, 0));
 
-   --  4294967295 mod 999528 is 995007 and mod 999527 is 999303, so about one
-   --  operand in 4300 of a delay or an advance is drawn again.
+   --  4294967295 mod 1000001 is 963001 and mod 1000000 is 967295, so about one
+   --  operand in 4400 of a delay or an advance is drawn again.
    Menu : constant Profile :=
-     (Span    => 999_527,
+     (Span    => 1_000_000,
       Weights => (10, 30, 20, 10, 10, 10, 20, 10));
 
    --  One block: a machine, what its draws have spent, and the sum of all
@@ -89,7 +89,6 @@ procedure Even2 is
    procedure Run (Seed : Word_32) is
       B : Block := (Seed => Seed, others => <>);
    begin
-      Put_Line ("draws running clock seed spent sum");
       for C of Setup loop
          Carry_Out (B, C);
       end loop;
@@ -103,7 +102,10 @@ procedure Even2 is
    end Run;
 
 begin
-   Run (2_863_311_531);
+   Put_Line ("draws running clock seed spent sum");
    Run (1);
+   Run (2_147_483_649);
+   Run (2_159_691_842);
+   Run (4_294_967_295);
    Flush;
 end Even2;
