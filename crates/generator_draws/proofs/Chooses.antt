@@ -71,7 +71,7 @@ needed-chooses choice k n seed = go (eqb n 0) refl (k n seed)
     go false e c = c
 
 -- ## A choice below 1
--- It is 0 and spends one draw, in both editions. Of edition 2: no draw of 32 bits is above 4294967295, and so none is drawn again.
+-- It is 0 and spends one draw. (So does every choice of edition 1.) No draw of 32 bits is above 4294967295, and so none is drawn again.
 pub below-1 : (seed : ℕ) → seed < 2 ^ 32 → even 1 seed ≡ plain seed
 below-1 seed h =
     let d : draw seed < 4294967296 = draw-fits seed h in

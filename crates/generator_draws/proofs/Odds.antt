@@ -1,9 +1,10 @@
 -- Even odds, as counts. Of the numbers below L each choice below n comes from equally many, L / n. Over the eight draws of a choice, all values against all,
--- each choice comes from equally many lists of values, but for r ^ 7 lists where r = 4294967295 mod n: those whose first seven values are all drawn again and
--- whose eighth is not below L. Assumes nothing.
+-- each choice comes from equally many lists of values, but that a choice below r = 4294967295 mod n has r ^ 7 more: the lists whose first seven values are drawn
+-- again and whose eighth is the one value not below L that gives this choice. (All lists of eight values are counted, as if draws did not depend on each
+-- other. From a seed the first draw fixes the others, so a run of the generator meets only 4294967295 of these lists.) Assumes nothing.
 use Prim.Native.Nat.{ℕ, zero, suc, _+_, _-_, _*_, _/_, _%_, _≤_, _<_, _^_}
 use native.Mathlib.Omega.{arith}
-use native.Mathlib.Nat.{mod-lt, mod-eq-of-lt, mul-add, add-mul, mul-comm, pow-zero, pow-succ', div-add-mod, mul-add-mod-self-left}
+use native.Mathlib.Nat.{mod-lt, mod-eq-of-lt, mul-add, add-mul, mul-comm, mul-one, mul-assoc, mul-left-comm, pow-zero, pow-succ', div-add-mod, mul-add-mod-self-left}
 use mathlib.Core.Path.{_≡_, refl, sym, ap, _∙_}
 use mathlib.Core.Bool.{Bool, true, false, cond}
 use mathlib.Core.List.{_∷_}
@@ -161,6 +162,13 @@ rounds n = sym (div-add-mod 4294967295 n)
 limit-whole : (n : ℕ) → limit n ≡ n * (4294967295 / n)
 limit-whole n = omega (arith, div-add-mod 4294967295 n)
 
+-- L is a multiple of n, and the largest that is not above 4294967295.
+pub largest-multiple : (n : ℕ) → 1 ≤ n → (limit n ≡ n * (draw-values / n)) × (limit n ≤ draw-values) × (draw-values < limit n + n)
+largest-multiple n pos =
+    let w = div-add-mod 4294967295 n in
+    let z : draw-values % n < n = mod-lt 4294967295 pos in
+    (limit-whole n, omega (arith, w, z), omega (arith, w, z))
+
 -- Of the numbers below L each choice below n comes from equally many: L / n, which is 4294967295 / n.
 pub even-odds : (n c : ℕ) → 1 ≤ n → c < n → how-many (limit n) (λ v. eqb (v % n) c) ≡ draw-values / n
 even-odds n c pos low = ap (λ (k : ℕ). how-many k (λ v. eqb (v % n) c)) (limit-whole n) ∙ in-rounds n c pos low (4294967295 / n)
@@ -172,6 +180,37 @@ pub uneven-by : (n c : ℕ) → 1 ≤ n → c < n
 uneven-by n c pos low =
     ap (λ (lim : ℕ). how-many-lists draw-values 8 (λ l. eqb (chosen-from lim n l) c)) (limit-whole n)
     ∙ all-values n c pos low draw-values (draw-values / n) (draw-values % n) (rounds n) (let z : draw-values % n < n = mod-lt 4294967295 pos in omega arith) 7
+
+-- How little that is, for every n to 4294967295: r is below n, and at most 2147483647, which n = 2147483648 meets. So less than half of the values of a draw are
+-- drawn again. For n up to 1000001, the largest of a menu, r ^ 7 is below 10 ^ 42, of about 1.2 * 10 ^ 77 lists.
+pub few-left : (n : ℕ) → 1 ≤ n → n ≤ draw-values → (draw-values % n < n) × (draw-values % n ≤ 2147483647)
+few-left n pos h = (below, go (draw-values / n) (rounds n))
+  where
+    below : draw-values % n < n
+    below = mod-lt 4294967295 pos
+
+    go : (q : ℕ) → 4294967295 ≡ n * q + 4294967295 % n → draw-values % n ≤ 2147483647
+    go zero e = absurd (omega (arith, e, below, h))
+    go (suc q) e = omega (arith, e, below, mul-add n 1 q)
+
+-- What all choices have in common is the rest of the lists, in n equal shares: with the r ^ 8 lists whose eight values are all left over they are all that there are.
+power-one : (x : ℕ) → x ^ 1 ≡ x
+power-one x = pow-succ' x 0 ∙ (ap (λ (y : ℕ). x * y) (pow-zero x) ∙ mul-one x)
+
+all-lists : (top n q r : ℕ) → top ≡ n * q + r → (k : ℕ) → n * common top q r k + r ^ suc k ≡ top ^ suc k
+all-lists top n q r e zero = omega (arith, e, power-one r, power-one top)
+all-lists top n q r e (suc k) =
+    let t = top ^ suc k in
+    let c = common top q r k in
+    let above : n * (q * t + r * c) ≡ n * (q * t) + n * (r * c) = mul-add n (q * t) (r * c) in
+    let left : n * (q * t) ≡ n * q * t = sym (mul-assoc n q t) in
+    let right : n * (r * c) ≡ r * (n * c) = mul-left-comm n r c in
+    let whole : top * t ≡ n * q * t + r * t = ap (λ (x : ℕ). x * t) e ∙ add-mul (n * q) r t in
+    let again : r * t ≡ r * (n * c) + r * r ^ suc k = ap (λ (x : ℕ). r * x) (sym (all-lists top n q r e k)) ∙ mul-add r (n * c) (r ^ suc k) in
+    omega (arith, above, left, right, whole, again, pow-succ' r (suc k), pow-succ' top (suc k))
+
+pub shares : (n : ℕ) → let r = draw-values % n in n * common draw-values (draw-values / n) r 7 + r ^ 8 ≡ draw-values ^ 8
+shares n = all-lists draw-values n (draw-values / n) (draw-values % n) (rounds n) 7
 
 -- And the choice that is made is that of the values of its draws.
 within-is : (more n seed : ℕ) → choose-within more n seed .number ≡ chosen-from (limit n) n (values (suc more) seed)

@@ -20,13 +20,14 @@ pub seven-again : (even 7 1584200935 ≡ record { number = 1; seed = 253983; spe
 unfolding even draw
 seven-again = (refl, refl, refl)
 
--- Below 100, and below 2147483649, where nearly half of all draws are made again: seven times from the first seed, and from the second the eighth draw is not
--- below L either and is taken all the same. Rules out: a ninth draw, and an eighth that is not made.
+-- Below 100; below 2147483649, where nearly half of all draws are made again, seven times from that seed; and below 2863311530, where a third is: from the first
+-- seed the eighth draw is below L, from the second it is not, and is taken all the same. Rules out: a ninth draw, and an eighth that is not made.
 pub again-and-again : (even 100 22372349 ≡ record { number = 48; seed = 22350349; spent = 2 })
     × (even 2147483649 8368 ≡ record { number = 1264041421; seed = 3411525071; spent = 8 })
-    × (even 2147483649 8447 ≡ record { number = 1075799892; seed = 3223283542; spent = 8 })
+    × (even 2863311530 12827 ≡ record { number = 529093277; seed = 529093278; spent = 8 })
+    × (even 2863311530 11818 ≡ record { number = 160613986; seed = 3023925517; spent = 8 })
 unfolding even draw
-again-and-again = (refl, refl, refl)
+again-and-again = (refl, refl, refl, refl)
 
 -- Commands. From seed 1 with ten for each kind, as document 01's drawn delay 39 of edition 1; with S of 7 and of 100, from seeds whose first choice draws
 -- again; and inside an entry, where done's barrier is the last choice.

@@ -122,7 +122,7 @@ module _ (m : Machine) (p : Profile) (s : sound m ≡ true) (on : m .started ≡
           let z : c .op - 4 ≡ i = omega (arith, r .op) in
           record { accepted = r .accepted; op = (omega (arith, r .op), omega (arith, r .op)); weight = rw z w; fits = r .fits }
 
-  -- A command made by a chooser of either edition is fine; the seed left is the draw applied as often as is told, 3 to 24 times.
+  -- A command made by a chooser of either edition is fine.
   made-fine : (choice : Chooser) → Chooses choice → (seed : ℕ) → Fine m p (made-by choice m seed p .command)
   unfolding made-by
   made-fine choice k seed =
@@ -166,7 +166,8 @@ module _ (m : Machine) (p : Profile) (s : sound m ≡ true) (on : m .started ≡
         λ d2 d3. (ap (λ (o : Offer). command-by o d2 d3) found, ap (λ (o : Offer). command-by o d2 d3 .op) found ∙ op-at i _ _ h),
       )
 
-  -- Edition 2: the first draw is taken at once, since d1 - 1 is below L; the other choices are made from it, whatever they are.
+  -- Edition 2: the first draw is taken at once, since d1 - 1 is below L; the other choices are made from it, whatever they are. (That some seed has this first draw
+  -- is not said: it would be that a draw is onto.)
   pub each-kind-drawn-evenly : (i : ℕ) → i < 8 → offer-at m p i .legal ≡ true → 1 ≤ at (p .weights) i
       → let l = weighed-menu m p in (d1 : ℕ) × (1 ≤ d1) × (d1 < 2 ^ 32) × (d1 - 1 < limit (total l)) × (choose ((d1 - 1) % total l) 0 l ≡ offer-at m p i)
       × ((seed : ℕ) → draw seed ≡ d1 → made-by even m seed p ≡ filled even (offer-at m p i) (record { number = (d1 - 1) % total l; seed = d1; spent = 1 }))

@@ -5,12 +5,12 @@ use mathlib.Core.Bool.{Bool, true, cond, not, _&&_}
 use mathlib.Core.List.{List, [], _∷_}
 use lib.Dec.{eqb, leb, ltb}
 use lib.ListN.{getD, length}
-use Rattle.rules.specs.Line.{at, count, empty}
-use Rattle.rules.specs.Machine.{Machine, Command, declared, empty-handed, runner, for-open, for-entry}
+use Rattle.rules.specs.Line.{at, empty}
+use Rattle.rules.specs.Machine.{Machine, Command, declared, last-opened, way-held, empty-handed, holders, runner, for-open, for-entry}
 
 -- the object that the runner holds, 0 for none
 abbrev pub hand : Machine → ℕ
-hand m = at (m .held) (runner m)
+hand m = last-opened m (runner m)
 
 -- the runner is not idle, and holds nothing
 abbrev pub free-runner : Machine → Bool
@@ -18,11 +18,11 @@ free-runner m = not (eqb (runner m) 0) && empty-handed m (runner m)
 
 -- inside an open, or inside an entry
 abbrev pub inside : Machine → ℕ → Bool
-inside m way = not (empty-handed m (runner m)) && eqb (at (m .way) (runner m)) way
+inside m way = not (empty-handed m (runner m)) && eqb (way-held m (runner m)) way
 
 -- eligible: declared, ceiling at least the base, not held
 abbrev pub eligible : Machine → ℕ → Bool
-eligible m o = declared m o && leb (at (m .base) (runner m)) (at (m .ceiling) o) && not (leb 1 (count o (m .held)))
+eligible m o = declared m o && leb (at (m .base) (runner m)) (at (m .ceiling) o) && not (leb 1 (holders m o))
 
 -- those that pass the test, in order
 abbrev pub sift : (ℕ → Bool) → List ℕ → List ℕ

@@ -29,7 +29,7 @@ refusedOf code seed = record { code = code; command = toldCommand draw.no-comman
 unfoldable pub drawnOf : Kernel → ℕ → Profile → Drawn
 drawnOf k seed p = cond (isSound k) (toldDrawn (draw.drawn-evenly (view k) seed (profileOf p))) (refusedOf 1 seed)
 
--- A draw with its step: the state left behind, and the answer, are those of such a draw of edition 1.
+-- A draw with its step: the state left behind and the answer follow from what was drawn, as they do for edition 1.
 abbrev pub bare : Drawn → once.Drawn
 bare d = record { code = d .code; command = d .command; seed = d .seed }
 

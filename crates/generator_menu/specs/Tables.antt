@@ -1,5 +1,5 @@
 -- What is computed of a draw on the kernel's tables. proofs/Tied ties it to the definitions over the machine (crate
--- draws).
+-- generator_draws).
 use Prim.Native.Nat.{ℕ, zero, suc, _+_, _-_, _%_, _^_}
 use mathlib.Core.Bool.{Bool, cond, not, _&&_, _||_}
 use mathlib.Core.List.{List, [], _∷_}
