@@ -76,7 +76,7 @@ fn fill(out: &mut [u8], records: u32)
 // The header and `records` records, as far as there is room.
 #[no_mangle]
 pub extern "C" fn tape_bench_write(out: &mut [u8], records: u32)
-    ensures { λ _. ⌜ now (out .exit) ≡ filled (writeOf (now (out .entry)) 0 (headerOf 1)) records ⌝ }
+    ensures { λ _. ⌜ now (out .exit) ≡ filled (writeOf (now (out .entry)) 0 (headerOf 1 1)) records ⌝ }
 {
     tape::write_at(out, 0, tape::header(1, 1));
     fill(out, records)
