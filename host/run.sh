@@ -1,10 +1,10 @@
 #!/bin/sh
 # Builds the two static libraries, holds what each exports to its header, compiles the example hosts and the hostile hosts for x86-64, and runs
-# them: walk and draw against what the programs of these names print, judge_tape against what program judge prints of its stored tapes, the
-# hostile hosts against their stored lines, and stack against the bounds that docs/IMAGE.md and docs/JUDGE-C.md state. A line that a hostile host
-# prints is stored in host/NAME.stdout, as it was printed in target/host/NAME.stdout, after somebody has seen why it changed. Wants the toolchain, and
-# of Debian gcc, libc6-dev and binutils on x86-64; on Arm gcc-x86-64-linux-gnu and libc6-dev-amd64-cross, and the hosts run under the toolchain's
-# emulator.
+# them: walk and draw against what the programs of these names print, even against what generator_run_evenly prints, judge_tape against what program
+# judge prints of its stored tapes, the hostile hosts against their stored lines, and stack against the bounds that docs/IMAGE.md and docs/JUDGE-C.md
+# state. A line that a hostile host prints is stored in host/NAME.stdout, as it was printed in target/host/NAME.stdout, after somebody has seen why it
+# changed. Wants the toolchain, and of Debian gcc, libc6-dev and binutils on x86-64; on Arm gcc-x86-64-linux-gnu and libc6-dev-amd64-cross, and the
+# hosts run under the toolchain's emulator.
 set -eu
 here=$(cd "$(dirname "$0")" && pwd)
 root=$(cd "$here/.." && pwd)
@@ -57,6 +57,7 @@ host() {
 # hostile_tapes and stack link both libraries at once.
 host walk "$libs/libimage.a"
 host draw "$libs/libimage.a"
+host even "$libs/libimage.a"
 host hostile "$libs/libimage.a"
 host judge_tape "$libs/libjudge_c.a"
 host hostile_tapes "$libs/libimage.a" "$libs/libjudge_c.a"
@@ -71,6 +72,8 @@ runs walk
 runs draw
 # The same for many commands: each in one call and in two, and it fails where these differ.
 $run "$out/draw" 20000 >"$out/draw.many" || { tail -n 1 "$out/draw.many" >&2; fail "host/draw.c failed, as it says above"; }
+runs even
+diff "$root/crates/generator_run_evenly/stdout" "$out/even.stdout" >&2 || fail "host/even.c prints other lines (>) than program generator_run_evenly (<)"
 runs hostile "$root/crates/kernel_cases/stdin"
 runs hostile_tapes
 runs stack
@@ -94,6 +97,6 @@ if echo 'int main(){}' | $cc -x c++ -fsyntax-only - 2>/dev/null; then
 else
     echo "host/run.sh: the headers were not tried as C++: $cc compiles none. On Debian: apt-get install $plus" >&2
 fi
-echo "host: walk and draw on an image print what the programs print; $(cat "$out/hostile.stdout"); exported: $(tr '\n' ' ' <"$out/image.exported")"
+echo "host: walk, draw and even on an image print what the programs print; $(cat "$out/hostile.stdout"); exported: $(tr '\n' ' ' <"$out/image.exported")"
 echo "host: judge_tape prints what program judge prints; $(cat "$out/hostile_tapes.stdout"); exported: $(tr '\n' ' ' <"$out/judge_c.exported")"
 echo "host: $(cat "$out/stack.stdout")"

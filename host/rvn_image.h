@@ -113,6 +113,19 @@ uint32_t rvn_wakes_left(const uint8_t *image, size_t length, uint64_t task);
 uint32_t rvn_draw(const uint8_t *image, size_t length, uint32_t *seed, uint64_t span, const uint32_t *weights, size_t count, uint64_t *value);
 
 /*
+ * Draws a command for the machine of an image by even choices (edition 2): as rvn_draw, with the same refusals, but a number below n is chosen from
+ * those draws alone of which each choice has equally many, by drawing again where one is left over. Another command than rvn_draw's comes of the same
+ * seed. The answer is what rvn_draw's is made of + 4294967296 * the draws spent, 3 to 24: RVN_DRAWN and RVN_SPENT take it apart. A refusal, 1, 17, 18
+ * or 2, answers its code alone, so that no draw is spent, and leaves *seed and *value.
+ *
+ *   image, length, span, weights, count, value    as those of rvn_draw
+ *   seed     1..4294967295; advanced where it stands, by as many draws as are spent, and never to 0
+ *
+ * The bytes of image, *seed, weights and *value may not overlap.
+ */
+uint64_t rvn_draw_even(const uint8_t *image, size_t length, uint32_t *seed, uint64_t span, const uint32_t *weights, size_t count, uint64_t *value);
+
+/*
  * Draws a command for the machine of an image and carries it out: what rvn_draw, and then rvn_step of what it drew, do in two calls, with one test of
  * the state. The answer is that of rvn_draw + 4294967296 * that of rvn_step: RVN_DRAWN and RVN_STEPPED take it apart, and the parts of those are read
  * as theirs are. A drawn command is accepted, so the step's code is 0 always. A refusal, 1, 17, 18 or 2, answers its code alone, so that running
@@ -125,8 +138,9 @@ uint32_t rvn_draw(const uint8_t *image, size_t length, uint32_t *seed, uint64_t 
  */
 uint64_t rvn_draw_step(uint8_t *image, size_t length, uint32_t *seed, uint64_t span, const uint32_t *weights, size_t count, uint64_t *value);
 
-/* The two answers of rvn_draw_step. */
+/* The two halves of an answer of 64 bits: of rvn_draw_step what is drawn and its step, of rvn_draw_even what is drawn and the draws spent. */
 #define RVN_DRAWN(answer) ((uint32_t)(answer))           /* what is drawn, as rvn_draw answers it */
+#define RVN_SPENT(answer) ((uint32_t)((answer) >> 32))   /* the draws spent; 0 where the draw is refused */
 #define RVN_STEPPED(answer) ((uint32_t)((answer) >> 32)) /* its step, as rvn_step answers it; 0 where the draw is refused */
 
 /* The parts of an answer. */

@@ -18,11 +18,11 @@
 #define ROUNDS 400
 #define RECORDS 64
 
-enum call { NOTHING, STEP, FRESH, LEFT, DRAW, DRAW_STEP, JUDGE, CALLS };
+enum call { NOTHING, STEP, FRESH, LEFT, DRAW, DRAW_EVEN, DRAW_STEP, JUDGE, CALLS };
 
 /* The names, and the bounds that the documents state. */
-static const char *const names[CALLS] = {"", "rvn_step", "rvn_fresh", "rvn_wakes_left", "rvn_draw", "rvn_draw_step", "rvn_judge"};
-static const size_t bounds[CALLS] = {0, 8192, 256, 4096, 2048, 2048, 16384};
+static const char *const names[CALLS] = {"", "rvn_step", "rvn_fresh", "rvn_wakes_left", "rvn_draw", "rvn_draw_even", "rvn_draw_step", "rvn_judge"};
+static const size_t bounds[CALLS] = {0, 8192, 256, 4096, 2048, 2048, 2048, 16384};
 
 static uint8_t stack[STACK] __attribute__((aligned(16)));
 static ucontext_t host, called;
@@ -42,6 +42,7 @@ static void make_call(void)
     case FRESH: answer = rvn_fresh(image, length); break;
     case LEFT: answer = rvn_wakes_left(image, length, a); break;
     case DRAW: answer = rvn_draw(image, length, &from, 100, weights, count, &value); break;
+    case DRAW_EVEN: answer = (uint32_t)rvn_draw_even(image, length, &from, 100, weights, count, &value); break;
     case DRAW_STEP: answer = (uint32_t)rvn_draw_step(image, length, &from, 100, weights, count, &value); break;
     case JUDGE: answer = rvn_judge(tape, length, numbers, count); break;
     default: break;
@@ -91,7 +92,7 @@ static void set_up(void)
     step_with(RVN_START, 0, 0, 0);
 }
 
-/* Twice from one image and one seed: in one call, and in two. */
+/* From one image and one seed: by even choices, with its step in one call, and in two. */
 static void draw_and_step(void)
 {
     uint8_t was[RVN_IMAGE_BYTES];
@@ -102,6 +103,8 @@ static void draw_and_step(void)
         weights[i] = 1 + (uint32_t)below(one_in(20) ? 200 : 100);
     memcpy(was, image, sizeof was);
     first = from;
+    measure(DRAW_EVEN);
+    from = first;
     measure(DRAW_STEP);
     memcpy(image, was, sizeof was);
     from = first;

@@ -19,11 +19,15 @@ use Rattle.generator.specs.declared.Profile.{Profile}
 use Rattle.generator.specs.declared.Drawn.{Drawn}
 use Rattle.generator.specs.declared.Carried.{Carried}
 use Rattle.generator.specs.Public.{drawnOf, refusedOf, behindDraw, answerTo, carriedOf}
+use Rattle.generator_evenly.specs.declared.Drawn as counted
+use Rattle.generator_evenly.specs.Public.{bare}
+use Rattle.generator_evenly.specs.Public as evenly
 use Rattle.image_calls.specs.Calls.{fitted, packed, packedLeft, stepAnswer, stepImage, leftAnswer}
 use Rattle.image_calls.specs.Calls.{toldProfile, fittedProfile, drawOn, packedDrawn, drawAnswer, drawSeed, drawValue, drawStepAnswer, drawStepImage}
+use Rattle.image_calls.specs.Calls.{valueLeft, drawEvenOn, packedEven, drawEvenAnswer, drawEvenSeed, drawEvenValue}
 use Rattle.image_calls.proofs.Cut.{fitted-step, asked-draw}
-use Rattle.image_calls.proofs.Theorems.{left-alone}
-use Rattle.image_edge.specs.Edge.{imageLeft, seedLeft, valueLeft, packedBoth}
+use Rattle.image_calls.proofs.Theorems.{left-alone, left-alone-evenly}
+use Rattle.image_edge.specs.Edge.{imageLeft, seedLeft, packedBoth}
 use Rattle.image.specs.Tables.{stepRead, drawnRead, behindRead}
 
 -- Bytes of which no state is read are no image; of others the state decides.
@@ -146,6 +150,50 @@ module _ (s : List ℕ) (seed span : ℕ) (weights : List ℕ) (value : ℕ) {d 
       → (r ≡ drawAnswer s seed span weights) × (x ≡ drawSeed s seed span weights) × (v ≡ drawValue s seed span weights value)
   unfolding drawAnswer
   draw-ends p e f = (p ∙ ap packedDrawn drawing, e ∙ seed-so, f ∙ value-so)
+
+-- The draw by even choices.
+unsound-draw-evenly : (k : Kernel) (seed : ℕ) (p : Profile) → isSound k ≡ false → evenly.drawnOf k seed p ≡ evenly.refusedOf 1 seed
+unfolding evenly.drawnOf
+unsound-draw-evenly k seed p e = rw e
+
+module _ (s : List ℕ) (seed : ℕ) (p : Profile) where
+  pub none-draw-evenly : formed s ≡ false → evenly.refusedOf 1 seed ≡ drawEvenOn s seed p
+  unfolding drawEvenOn
+  none-draw-evenly h = rw (unformed s h)
+
+  pub answered-draw-evenly : formed s ≡ true → evenly.drawnOf (kernelOf s) seed p ≡ drawEvenOn s seed p
+  unfolding drawEvenOn
+  answered-draw-evenly h = rw (image-sound s h) (go (isSound (kernelOf s)) refl)
+    where
+      go : (b : Bool) → isSound (kernelOf s) ≡ b → evenly.drawnOf (kernelOf s) seed p ≡ cond b (evenly.drawnOf (kernelOf s) seed p) (evenly.refusedOf 1 seed)
+      go true e = refl
+      go false e = unsound-draw-evenly (kernelOf s) seed p e
+
+-- What the call answers, of what is drawn (d) and that without its count (b), and the seed and the value that it leaves.
+module _ (s : List ℕ) (seed span : ℕ) (weights : List ℕ) (value : ℕ) {d : counted.Drawn} {b : Drawn}
+    (drawing : d ≡ drawEvenOn s seed (toldProfile span weights)) (without : b ≡ bare d) where
+  abbrev found-evenly : counted.Drawn
+  found-evenly = drawEvenOn s seed (toldProfile span weights)
+
+  bared : b ≡ bare found-evenly
+  bared = without ∙ ap bare drawing
+
+  seed-so-evenly : seedLeft b seed ≡ drawEvenSeed s seed span weights
+  unfolding drawEvenSeed
+  seed-so-evenly = ap (λ (y : Drawn). seedLeft y seed) bared ∙ go (eqb (found-evenly .code) 0) refl
+    where
+      go : (z : Bool) → eqb (found-evenly .code) 0 ≡ z → cond z (found-evenly .seed) seed ≡ found-evenly .seed
+      go true q = refl
+      go false q = sym (left-alone-evenly s seed (toldProfile span weights) (eqb-false (found-evenly .code) 0 q))
+
+  value-so-evenly : valueLeft b value ≡ drawEvenValue s seed span weights value
+  unfolding drawEvenValue
+  value-so-evenly = ap (λ (y : Drawn). valueLeft y value) bared
+
+  pub draw-even-ends : {r x v : ℕ} → r ≡ packedEven d → x ≡ seedLeft b seed → v ≡ valueLeft b value
+      → (r ≡ drawEvenAnswer s seed span weights) × (x ≡ drawEvenSeed s seed span weights) × (v ≡ drawEvenValue s seed span weights value)
+  unfolding drawEvenAnswer
+  draw-even-ends p e f = (p ∙ ap packedEven drawing, e ∙ seed-so-evenly, f ∙ value-so-evenly)
 
 -- A draw with its step of what is read: what is drawn is the draw's, what is left is the step's of that command, and so is the answer.
 pub drawn-so : (s : List ℕ) (seed : ℕ) (p : Profile) → drawnRead s seed p .drawn ≡ drawOn s seed p

@@ -17,6 +17,7 @@ use Rattle.image.proofs.rvn_step
 use Rattle.image.proofs.rvn_fresh
 use Rattle.image.proofs.rvn_wakes_left
 use Rattle.image.proofs.rvn_draw
+use Rattle.image.proofs.rvn_draw_even
 use Rattle.image.proofs.rvn_draw_step
 
 -- Four parts that are equal to four others' (as one_answer's laws of two and three).
@@ -42,6 +43,10 @@ module _ {M : Type 1} (𝓤 : URA M) (H : Heap 𝓤) (A : Atoms 𝓤) (mem : Mem
   -- the seed and the value
   pub rvn-draw-single : OneEnd 𝓤 rvn_draw.ended (rvn_draw.clauses 𝓤 H A mem run) (ℕ × ℕ × ℕ) (λ κs r e. (r, now (e .1 .0), now (e .1 .1 .1 .1 .0)))
   rvn-draw-single κs a g r s d e = both 𝓤 _ _ _ each-of-three
+
+  pub rvn-draw-even-single : OneEnd 𝓤 rvn_draw_even.ended (rvn_draw_even.clauses 𝓤 H A mem run) (ℕ × ℕ × ℕ)
+      (λ κs r e. (r, now (e .1 .0), now (e .1 .1 .1 .1 .0)))
+  rvn-draw-even-single κs a g r s d e = both 𝓤 _ _ _ each-of-three
 
   -- the image, the seed and the value
   pub rvn-draw-step-single : OneEnd 𝓤 rvn_draw_step.ended (rvn_draw_step.clauses 𝓤 H A mem run) (ℕ × List ℕ × ℕ × ℕ)

@@ -10,16 +10,20 @@ ghost use Rattle.kernel.specs.Step.{tables};
 ghost use Rattle.generator.specs.Public.{refusedOf, unmoved};
 ghost use Rattle.image_calls.specs.Calls.{told, stepAnswer, stepImage, freshAnswer, freshImage, leftAnswer, drawOn};
 ghost use Rattle.image_calls.specs.Calls.{drawAnswer, drawSeed, drawValue, drawStepAnswer, drawStepImage};
+ghost use Rattle.image_calls.specs.Calls.{drawEvenOn, drawEvenAnswer, drawEvenSeed, drawEvenValue};
+ghost use Rattle.generator_evenly.specs.Public as evenly;
 ghost use Rattle.image_edge.specs.Edge.{imageLeft};
 ghost use Rattle.image.specs.Tables.{stepRead, drawnRead, behindRead};
 use generator::Carried;
 use generator::Drawn;
 use generator::Profile;
+use image_edge::bare;
 use image_edge::command;
 use image_edge::keep;
 use image_edge::leave;
 use image_edge::pack_both;
 use image_edge::pack_drawn;
+use image_edge::pack_even;
 use image_edge::pack_left;
 use image_edge::profile;
 use image_edge::task;
@@ -323,6 +327,119 @@ pub extern "C" fn rvn_draw(
     );
     leave(d, seed, value);
     pack_drawn(d)
+}
+
+// ---- A command drawn by even choices
+
+// The answer where there is no image.
+fn no_image_even(seed: u32) -> generator_evenly::Drawn
+    ensures { λ r. ⌜ r ≡ evenly.refusedOf 1 seed ⌝ }
+{
+    generator_evenly::Drawn {
+        code: 1,
+        command: Command {
+            op: 0,
+            a: 0,
+            b: 0,
+            value: 0,
+        },
+        seed,
+        spent: 0,
+    }
+}
+
+// The draw by even choices over the state that the bytes hold, which is read into tables that are lent.
+fn draw_even_on(
+    image: &[u8],
+    base: &mut [u8; 32],
+    ready: &mut [u8; 32],
+    delayed: &mut [u8; 32],
+    held: &mut [u8; 32],
+    way: &mut [u8; 32],
+    until: &mut [u64; 32],
+    ceiling: &mut [u8; 8],
+    waiter: &mut [u8; 8],
+    clock: &mut u64,
+    started: &mut bool,
+    seed: u32,
+    p: Profile,
+) -> generator_evenly::Drawn
+    ensures { λ r. ⌜ r ≡ drawEvenOn (now (image .entry)) seed p ⌝ }
+{
+    if !image_layout::read(
+        image,
+        base,
+        ready,
+        delayed,
+        held,
+        way,
+        until,
+        ceiling,
+        waiter,
+        clock,
+        started,
+    ) {
+        return no_image_even(seed);
+    }
+    generator_evenly::draw(
+        base,
+        ready,
+        delayed,
+        held,
+        way,
+        until,
+        *ceiling,
+        *waiter,
+        *clock,
+        *started,
+        seed,
+        p,
+    )
+}
+
+// Draws a command by even choices (edition 2) for the machine of an image, which it only reads: the answer is what
+// rvn_draw's is made of + 4294967296 * the draws spent. The seed is advanced by as many draws where it stands, and the
+// command's value stored. A refusal spends none, and leaves both.
+#[no_mangle]
+pub extern "C" fn rvn_draw_even(
+    image: &[u8],
+    seed: &mut u32,
+    span: u64,
+    weights: &[u32],
+    value: &mut u64,
+) -> u64
+    ensures { λ r. ⌜ (r ≡ drawEvenAnswer (now (image .entry)) (now (seed .entry)) span (now (weights .entry)))
+        × (now (seed .exit) ≡ drawEvenSeed (now (image .entry)) (now (seed .entry)) span (now (weights .entry)))
+        × (now (value .exit) ≡ drawEvenValue (now (image .entry)) (now (seed .entry)) span (now (weights .entry))
+        (now (value .entry))) ⌝ }
+{
+    let mut base = [0u8; 32];
+    let mut ready = [0u8; 32];
+    let mut delayed = [0u8; 32];
+    let mut held = [0u8; 32];
+    let mut way = [0u8; 32];
+    let mut until = [0u64; 32];
+    let mut ceiling = [0u8; 8];
+    let mut waiter = [0u8; 8];
+    let mut clock = 0;
+    let mut started = false;
+    let d = draw_even_on(
+        image,
+        &mut base,
+        &mut ready,
+        &mut delayed,
+        &mut held,
+        &mut way,
+        &mut until,
+        &mut ceiling,
+        &mut waiter,
+        &mut clock,
+        &mut started,
+        *seed,
+        profile(span, weights),
+    );
+    leave(bare(d), seed, value);
+    pack_even(d)
 }
 
 // ---- A drawn command, carried out

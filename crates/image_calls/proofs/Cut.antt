@@ -21,10 +21,12 @@ use Rattle.kernel.specs.declared.Left.{Left}
 use Rattle.kernel.specs.Public.{stepOf, leftOf}
 use Rattle.generator.specs.declared.Profile.{Profile}
 use Rattle.generator.specs.declared.Drawn.{Drawn}
-use Rattle.generator_draws.specs.Draw.{good-profile, draw-refusal, drawn-by, drawn}
+use Rattle.generator_draws.specs.Draw.{good-profile, draw-refusal, drawn-by, drawn, drawn-evenly}
 use Rattle.generator.specs.Public.{profileOf, drawnIn, drawnOf}
+use Rattle.generator_evenly.specs.declared.Drawn as counted
+use Rattle.generator_evenly.specs.Public as evenly
 use Rattle.image_form.specs.Layout.{kernelOf}
-use Rattle.image_calls.specs.Calls.{told, fitted, fittedTask, toldProfile, fittedProfile, drawOn}
+use Rattle.image_calls.specs.Calls.{told, fitted, fittedTask, toldProfile, fittedProfile, drawOn, drawEvenOn}
 
 -- what stands in a byte: every operand but a time and ticks
 abbrev in-a-byte : Operand → Bool
@@ -133,28 +135,46 @@ fitted-left k t = go (leb t 255) refl
 pub asked-left : {r : Left} {k : Kernel} {u : ℕ} (j : Kernel) (t : ℕ) → r ≡ leftOf k u → k ≡ j → u ≡ fittedTask t → r ≡ leftOf j t
 asked-left {u = u} j t e p q = e ∙ ap (λ (i : Kernel). leftOf i u) p ∙ ap (λ (v : ℕ). leftOf j v) q ∙ fitted-left j t
 
--- And so of a draw: profiles that are not good are refused alike, by 18, after 1 and 17.
-module _ (k : Kernel) (seed : ℕ) (p q : Profile) (h : good-profile (profileOf p) ≡ false) (j : good-profile (profileOf q) ≡ false) where
-  not-good : drawnOf k seed p ≡ drawnOf k seed q
-  unfolding drawnOf drawnIn drawn drawn-by draw-refusal
-  not-good = go (eqb seed 0) refl
-    where
-      go : (b : Bool) → eqb seed 0 ≡ b → drawnOf k seed p ≡ drawnOf k seed q
-      go true e = rw (h, j, e)
-      go false e = rw (h, j, e)
+-- And so of a draw, of either edition: profiles that are not good are refused alike, by 18, after 1 and 17.
+abbrev RefusedAlike : {A : Type 0} → (Profile → A) → Type 0
+RefusedAlike draw = (p q : Profile) → good-profile (profileOf p) ≡ false → good-profile (profileOf q) ≡ false → draw p ≡ draw q
 
-fitted-draw : (k : Kernel) (seed span : ℕ) (weights : List ℕ) → drawnOf k seed (fittedProfile span weights) ≡ drawnOf k seed (toldProfile span weights)
-fitted-draw k seed span weights = go (leb span 4294967295) refl (eqb (length weights) 8) refl
+not-good : (k : Kernel) (seed : ℕ) → RefusedAlike (drawnOf k seed)
+unfolding drawnOf drawnIn drawn drawn-by draw-refusal
+not-good k seed p q h j = go (eqb seed 0) refl
+  where
+    go : (b : Bool) → eqb seed 0 ≡ b → drawnOf k seed p ≡ drawnOf k seed q
+    go true e = rw (h, j, e)
+    go false e = rw (h, j, e)
+
+not-good-evenly : (k : Kernel) (seed : ℕ) → RefusedAlike (evenly.drawnOf k seed)
+unfolding evenly.drawnOf drawn-evenly drawn-by draw-refusal
+not-good-evenly k seed p q h j = go (eqb seed 0) refl
+  where
+    go : (b : Bool) → eqb seed 0 ≡ b → evenly.drawnOf k seed p ≡ evenly.drawnOf k seed q
+    go true e = rw (h, j, e)
+    go false e = rw (h, j, e)
+
+fitted-draw : {A : Type 0} (draw : Profile → A) → RefusedAlike draw → (span : ℕ) (weights : List ℕ)
+    → draw (fittedProfile span weights) ≡ draw (toldProfile span weights)
+fitted-draw draw alike span weights = go (leb span 4294967295) refl (eqb (length weights) 8) refl
   where
     go : (a : Bool) → leb span 4294967295 ≡ a → (b : Bool) → eqb (length weights) 8 ≡ b
-        → drawnOf k seed (cond (a && b) (record { span = span; weights = weights }) (record { span = 0; weights = replicate 8 0 }))
-        ≡ drawnOf k seed (record { span = cond b span 0; weights = weights })
+        → draw (cond (a && b) (record { span = span; weights = weights }) (record { span = 0; weights = replicate 8 0 }))
+        ≡ draw (record { span = cond b span 0; weights = weights })
     go true e true f = refl
-    go true e false f = not-good k seed _ _ refl refl
-    go false e true f = not-good k seed _ _ refl (rw (lt-leb span 1000000 (omega (arith, leb-false span 4294967295 e)), and-false))
-    go false e false f = not-good k seed _ _ refl refl
+    go true e false f = alike _ _ refl refl
+    go false e true f = alike _ _ refl (rw (lt-leb span 1000000 (omega (arith, leb-false span 4294967295 e)), and-false))
+    go false e false f = alike _ _ refl refl
 
 pub asked-draw : {r : Drawn} {p : Profile} (s : List ℕ) (seed span : ℕ) (weights : List ℕ) → r ≡ drawOn s seed p → p ≡ fittedProfile span weights → r
     ≡ drawOn s seed (toldProfile span weights)
 unfolding drawOn
-asked-draw s seed span weights e q = e ∙ ap (drawOn s seed) q ∙ rw (fitted-draw (kernelOf s) seed span weights)
+asked-draw s seed span weights e q =
+    e ∙ ap (drawOn s seed) q ∙ rw (fitted-draw (drawnOf (kernelOf s) seed) (not-good (kernelOf s) seed) span weights)
+
+pub asked-draw-evenly : {r : counted.Drawn} {p : Profile} (s : List ℕ) (seed span : ℕ) (weights : List ℕ) → r ≡ drawEvenOn s seed p
+    → p ≡ fittedProfile span weights → r ≡ drawEvenOn s seed (toldProfile span weights)
+unfolding drawEvenOn
+asked-draw-evenly s seed span weights e q =
+    e ∙ ap (drawEvenOn s seed) q ∙ rw (fitted-draw (evenly.drawnOf (kernelOf s) seed) (not-good-evenly (kernelOf s) seed) span weights)

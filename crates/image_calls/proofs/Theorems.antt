@@ -1,6 +1,6 @@
 -- What is promised of images, each in plain words and then in antt. Beside each: which wrong programs it rules out, and which it leaves to
 -- another. `imageOf` and `isImage` are in specs/Layout, the calls in specs/Calls; crates/image/src says that the calls are these. Assumes nothing.
-use Prim.Native.Nat.{ℕ, zero, suc, _+_, _*_, _/_, _%_, _<_, _^_}
+use Prim.Native.Nat.{ℕ, zero, suc, _+_, _*_, _/_, _%_, _≤_, _<_, _^_}
 use native.Mathlib.Omega.{arith}
 use native.Mathlib.Nat.{add-zero}
 use mathlib.Core.Path.{_≡_, refl, sym, ap, _∙_, subst}
@@ -9,7 +9,7 @@ use mathlib.Core.Bool.{Bool, true, false, cond, not, _&&_, true≢false}
 use mathlib.Core.List.{List, [], _∷_}
 use lib.ListN.{length, replicate}
 use lib.Dec.{eqb}
-use borrow.Author.Tests.{eq-eqb, ne-eqb, eqb-true}
+use borrow.Author.Tests.{eq-eqb, ne-eqb, eqb-true, eqb-false}
 use Rattle.rules.specs.Machine.{Machine, Command, fresh}
 use Rattle.rules.specs.Sound.{sound}
 use Rattle.rules.specs.Refusals.{first-number}
@@ -27,15 +27,25 @@ use Rattle.kernel.proofs.Round.{view-encode}
 use Rattle.kernel.proofs.Written.{stands, encode-sound, step-on, step-sound, refused-keeps}
 use Rattle.generator.specs.declared.Profile.{Profile}
 use Rattle.generator.specs.declared.Drawn.{Drawn}
-use Rattle.generator_draws.specs.Draw.{good-profile, drawn}
+use Rattle.generator_draws.specs.Below.{even}
+use Rattle.generator_draws.specs.Draw as draws
+use Rattle.generator_draws.specs.Draw.{good-profile, drawn, drawn-evenly}
 use Rattle.generator.specs.Public.{profileOf, toldDrawn, refusedOf, drawnIn, drawnOf}
-use Rattle.generator_draws.proofs.Theorems.{drawn-is-fine}
+use Rattle.generator_draws.proofs.Chooses.{even-chooses}
+use Rattle.generator_draws.proofs.Chooses as draws-in-turn
+use Rattle.generator_draws.proofs.Theorems.{Fine, drawn-is-fine, drawn-by-is-fine}
+use Rattle.generator_draws.proofs.Rows.{drawn-rows}
 use Rattle.generator.proofs.Shipped.{code-in-order, drawn-accepted, refused-leaves, draws-39}
+use Rattle.generator_evenly.specs.declared.Drawn as counted
+use Rattle.generator_evenly.specs.Public.{bare}
+use Rattle.generator_evenly.specs.Public as evenly
+use Rattle.generator_evenly.proofs.Shipped as evenly-shipped
 use Rattle.record_kept.specs.Kept.{kept}
 use Rattle.record_kept.specs.Kept as Kept
 use Rattle.image_form.specs.Layout.{imageOf, kernelOf, clean, formed, isImage}
 use Rattle.image_calls.specs.Calls.{told, packed, stepAnswer, stepImage, freshAnswer, freshImage}
 use Rattle.image_calls.specs.Calls.{toldProfile, drawOn, packedDrawn, drawAnswer, drawSeed, drawValue, drawStepAnswer, drawStepImage}
+use Rattle.image_calls.specs.Calls.{drawEvenOn, packedEven, drawEvenAnswer, drawEvenSeed, drawEvenValue}
 use Rattle.image_form.proofs.RoundTrip.{Bytes, image-size, image-back, bytes-are}
 
 -- A sound state's times are numbers of 64 bits.
@@ -159,32 +169,32 @@ left-alone s seed p = go (isImage s)
     go true n = refused-leaves (kernelOf s) seed p n
     go false n = refl
 
--- what is drawn has an op, an object and a barrier that fit a byte
+-- what is drawn, of either edition, has an op, an object and a barrier that fit a byte
+fine-small : (m : Machine) (p : draws.Profile) (c : Command) → Fine m p c → (c .op < 256) × (c .a < 256) × (c .b < 256)
+fine-small m p c f = (omega (arith, f .op .1), omega (arith, f .fits .0), omega (arith, f .fits .1))
+
 drawn-small : (k : Kernel) (seed : ℕ) (p : Profile) → isSound k ≡ true → drawnOf k seed p .code ≡ 0
     → let c = drawnOf k seed p .command in (c .op < 256) × (c .a < 256) × (c .b < 256)
 unfolding drawnOf drawnIn
 drawn-small k seed p s =
-    rw s
-    (λ e.
-    let f = drawn-is-fine (view k) seed (profileOf p) (tests-sound (view k) .found (stands k s .machine)) e in
-    (omega (arith, f .op .1), omega (arith, f .fits .0), omega (arith, f .fits .1)))
+    rw s (λ e. fine-small _ _ _ (drawn-is-fine (view k) seed (profileOf p) (tests-sound (view k) .found (stands k s .machine)) e))
 
 -- codes are bytes
+first-small : (a b c d : Bool) → first-number ((a, 1) ∷ (b, 17) ∷ (c, 18) ∷ (d, 2) ∷ []) < 256
+first-small true b c d = omega arith
+first-small false true c d = omega arith
+first-small false false true d = omega arith
+first-small false false false true = omega arith
+first-small false false false false = omega arith
+
 code-small : (s : List ℕ) (seed : ℕ) (p : Profile) → drawOn s seed p .code < 256
 unfolding drawOn
 code-small s seed p = go (isImage s)
   where
-    first : (a b c d : Bool) → first-number ((a, 1) ∷ (b, 17) ∷ (c, 18) ∷ (d, 2) ∷ []) < 256
-    first true b c d = omega arith
-    first false true c d = omega arith
-    first false false true d = omega arith
-    first false false false true = omega arith
-    first false false false false = omega arith
-
     go : (b : Bool) → cond b (drawnOf (kernelOf s) seed p) (refusedOf 1 seed) .code < 256
     go true =
         let k = kernelOf s in
-        rw (code-in-order k seed p) (first (not (isSound k)) (eqb seed 0) (not (good-profile (profileOf p))) (not (k .started)))
+        rw (code-in-order k seed p) (first-small (not (isSound k)) (eqb seed 0) (not (good-profile (profileOf p))) (not (k .started)))
     go false = omega arith
 
 -- The answer unpacked, of operands that are bytes.
@@ -283,3 +293,128 @@ draws-39-there =
     let q = draws-state k 1 (toldProfile 100 (10 ∷ 10 ∷ 10 ∷ 10 ∷ 10 ∷ 10 ∷ 10 ∷ 10 ∷ []))
     (encode-sound (run fresh set-up) (run-sound set-up fresh fresh-sound)) ∙ draws-39 in
     (ap packedDrawn q, ap (λ (d : Drawn). d .seed) q, ap (λ (d : Drawn). cond (eqb (d .code) 0) (d .command .value) 0) q)
+
+-- ## A draw by even choices (edition 2) is so over the image, its state and document 01's machine
+pub draws-state-evenly : (k : Kernel) (seed : ℕ) (p : Profile) → isSound k ≡ true → drawEvenOn (imageOf k) seed p ≡ evenly.drawnOf k seed p
+unfolding drawEvenOn
+draws-state-evenly k seed p e = let w = reads-back k e in rw (w .0, w .1)
+
+pub draws-machine-evenly : (m : Machine) (seed : ℕ) (p : Profile) → sound m ≡ true
+    → drawEvenOn (imageOf (encode m)) seed p ≡ evenly.toldDrawn (drawn-evenly m seed (profileOf p))
+unfolding evenly.drawnOf
+draws-machine-evenly m seed p e =
+    let s = tests-sound m .sure e in
+    draws-state-evenly (encode m) seed p (encode-sound m s) ∙ rw (encode-sound m s, view-encode m s)
+
+-- The two ways of such a draw: refused, it is its code and the seed that came in; made, it is over an image, and the generator's.
+data EvenWay (s : List ℕ) (seed : ℕ) (p : Profile) : Type 0 where
+  refused : (code : ℕ) → code ≢ 0 → code < 256 → drawEvenOn s seed p ≡ evenly.refusedOf code seed → EvenWay s seed p
+  made : isImage s ≡ true → evenly.drawnOf (kernelOf s) seed p .code ≡ 0 → drawEvenOn s seed p ≡ evenly.drawnOf (kernelOf s) seed p → EvenWay s seed p
+
+even-way : (s : List ℕ) (seed : ℕ) (p : Profile) → EvenWay s seed p
+unfolding drawEvenOn
+even-way s seed p = go (isImage s) refl (eqb (evenly.drawnOf (kernelOf s) seed p .code) 0) refl
+  where
+    small : evenly.drawnOf (kernelOf s) seed p .code < 256
+    small =
+        let k = kernelOf s in
+        rw (evenly-shipped.code-in-order k seed p) (first-small (not (isSound k)) (eqb seed 0) (not (good-profile (profileOf p))) (not (k .started)))
+
+    go : (b : Bool) → isImage s ≡ b → (z : Bool) → eqb (evenly.drawnOf (kernelOf s) seed p .code) 0 ≡ z → EvenWay s seed p
+    go false i z e = refused 1 (λ n. omega (arith, n)) (omega arith) (rw i)
+    go true i true e = made i (eqb-true _ 0 e) (rw i)
+    go true i false e =
+        let n = eqb-false _ 0 e in refused (evenly.drawnOf (kernelOf s) seed p .code) n small (rw i (evenly-shipped.refused-leaves (kernelOf s) seed p n))
+
+pub left-alone-evenly : (s : List ℕ) (seed : ℕ) (p : Profile) → drawEvenOn s seed p .code ≢ 0 → drawEvenOn s seed p .seed ≡ seed
+left-alone-evenly s seed p n = go (even-way s seed p)
+  where
+    go : EvenWay s seed p → drawEvenOn s seed p .seed ≡ seed
+    go (refused code k small q) = ap (λ (d : counted.Drawn). d .seed) q
+    go (made i z q) = absurd (n (ap (λ (d : counted.Drawn). d .code) q ∙ z))
+
+drawn-small-evenly : (k : Kernel) (seed : ℕ) (p : Profile) → isSound k ≡ true → evenly.drawnOf k seed p .code ≡ 0
+    → let c = evenly.drawnOf k seed p .command in (c .op < 256) × (c .a < 256) × (c .b < 256)
+unfolding evenly.drawnOf drawn-evenly
+drawn-small-evenly k seed p s =
+    rw s (λ e. fine-small _ _ _ (drawn-by-is-fine even even-chooses (view k) seed (profileOf p) (tests-sound (view k) .found (stands k s .machine)) e))
+
+-- Where its code is 0: the low 32 bits of the answer are taken apart as those of rvn_draw's, the rest is the draws that it spent.
+module _ (s : List ℕ) (seed span : ℕ) (weights : List ℕ) (value : ℕ) where
+  abbrev found-evenly : counted.Drawn
+  found-evenly = drawEvenOn s seed (toldProfile span weights)
+
+  made-evenly : drawEvenAnswer s seed span weights % 256 ≡ 0
+      → (isImage s ≡ true) × (found-evenly ≡ evenly.drawnOf (kernelOf s) seed (toldProfile span weights)) × (found-evenly .code ≡ 0)
+  unfolding drawEvenAnswer
+  made-evenly e = go (even-way s seed (toldProfile span weights))
+    where
+      go : EvenWay s seed (toldProfile span weights)
+          → (isImage s ≡ true) × (found-evenly ≡ evenly.drawnOf (kernelOf s) seed (toldProfile span weights)) × (found-evenly .code ≡ 0)
+      go (refused code n small q) = absurd (n (omega (arith, e, small, ap packedEven q)))
+      go (made i z q) = (i, q, ap (λ (d : counted.Drawn). d .code) q ∙ z)
+
+  -- the generator's draw is made, too
+  code-there : drawEvenAnswer s seed span weights % 256 ≡ 0 → evenly.drawnOf (kernelOf s) seed (toldProfile span weights) .code ≡ 0
+  code-there e = let w = made-evenly e in ap (λ (d : counted.Drawn). d .code) (sym (w .1)) ∙ w .2
+
+  bytes-evenly : drawEvenAnswer s seed span weights % 256 ≡ 0 → let c = found-evenly .command in (c .op < 256) × (c .a < 256) × (c .b < 256)
+  bytes-evenly e =
+      let w = made-evenly e in
+      rw (w .1) (drawn-small-evenly (kernelOf s) seed (toldProfile span weights) (image-sound s (w .0)) (code-there e))
+
+  pub draw-even-apart : drawEvenAnswer s seed span weights % 256 ≡ 0
+      → let n = drawEvenAnswer s seed span weights in (n % 4294967296 ≡ packedDrawn (bare found-evenly)) × (n / 4294967296 ≡ found-evenly .spent)
+  unfolding drawEvenAnswer
+  draw-even-apart e =
+      let z = made-evenly e .2 in let small = bytes-evenly e in
+      (omega (arith, z, small .0, small .1, small .2), omega (arith, z, small .0, small .1, small .2))
+
+  -- ## What is drawn evenly is accepted by the step of the same image
+  -- Rules out and leaves what drawn-steps does.
+  pub drawn-evenly-steps : drawEvenAnswer s seed span weights % 256 ≡ 0
+      → let r = drawEvenAnswer s seed span weights % 4294967296 in
+      stepAnswer s (told (r / 256 % 256) (r / 65536 % 256) (r / 16777216) (drawEvenValue s seed span weights value)) % 256 ≡ 0
+  unfolding drawEvenValue stepAnswer
+  drawn-evenly-steps e =
+      let w = made-evenly e in
+      let small = bytes-evenly e in
+      let u = unpacked-draw (bare found-evenly) (omega (arith, w .2)) (small .0) (small .1) in
+      let accepted = evenly-shipped.drawn-accepted (kernelOf s) seed (toldProfile span weights) (code-there e) in
+      rw (draw-even-apart e .0, u .1, u .2, u .3, eq-eqb (found-evenly .code) 0 (w .2), w .0, w .1) (omega (arith, accepted))
+
+  -- ## The draws spent are told truly: the seed left is the draw applied that often, 3 to 24 times
+  -- Rules out: a count that is left out, or cut, or that of another draw. Leaves: a seed that stands still where the draw is refused (draw-even-refused).
+  pub draw-even-spent : drawEvenAnswer s seed span weights % 256 ≡ 0
+      → let spent = drawEvenAnswer s seed span weights / 4294967296 in
+      (drawEvenSeed s seed span weights ≡ draws-in-turn.times spent seed) × (3 ≤ spent) × (spent ≤ 24)
+  unfolding drawEvenSeed
+  draw-even-spent e =
+      let q = made-evenly e .1 in
+      let w = evenly-shipped.spent-truly (kernelOf s) seed (toldProfile span weights) (code-there e) in
+      rw (draw-even-apart e .1 ∙ ap (λ (d : counted.Drawn). d .spent) q) (ap (λ (d : counted.Drawn). d .seed) q ∙ w .0, w .1, w .2)
+
+  -- ## A refused one changes nothing: its answer is the code alone, no draw spent, and the seed and the value are as they were
+  pub draw-even-refused : drawEvenAnswer s seed span weights % 256 ≢ 0
+      → (drawEvenAnswer s seed span weights < 256) × (drawEvenSeed s seed span weights ≡ seed) × (drawEvenValue s seed span weights value ≡ value)
+  unfolding drawEvenAnswer drawEvenSeed drawEvenValue
+  draw-even-refused n = go (even-way s seed (toldProfile span weights))
+    where
+      go : EvenWay s seed (toldProfile span weights)
+          → (packedEven found-evenly < 256) × (found-evenly .seed ≡ seed) × (cond (eqb (found-evenly .code) 0) (found-evenly .command .value) value ≡ value)
+      go (refused code k small q) = (omega (arith, small, ap packedEven q), ap (λ (d : counted.Drawn). d .seed) q, rw (q, ne-eqb code 0 k))
+      go (made i z q) = absurd (n (omega (arith, z, ap packedEven q)))
+
+-- Document 01's draw by even choices: the time is 38, since a number below 101 is chosen from the draw less 1; 3 draws are spent (12884902912 is
+-- 4294967296 * 3 + 256 * 4).
+pub draws-38-there : let s = imageOf (encode (run fresh set-up)) in let w : List ℕ = 10 ∷ 10 ∷ 10 ∷ 10 ∷ 10 ∷ 10 ∷ 10 ∷ 10 ∷ [] in
+    (drawEvenAnswer s 1 100 w ≡ 12884902912) × (drawEvenSeed s 1 100 w ≡ 2647435461) × (drawEvenValue s 1 100 w 0 ≡ 38)
+unfolding drawEvenAnswer drawEvenSeed drawEvenValue
+draws-38-there =
+    let m = run fresh set-up in
+    let q = draws-machine-evenly m 1 (toldProfile 100 (10 ∷ 10 ∷ 10 ∷ 10 ∷ 10 ∷ 10 ∷ 10 ∷ 10 ∷ []))
+    (tests-sound m .found (run-sound set-up fresh fresh-sound)) ∙ ap evenly.toldDrawn (drawn-rows .0) in (
+      ap packedEven q,
+      ap (λ (d : counted.Drawn). d .seed) q,
+      ap (λ (d : counted.Drawn). cond (eqb (d .code) 0) (d .command .value) 0) q,
+    )

@@ -13,6 +13,9 @@ use Rattle.kernel.specs.Public.{to-rules, stepOf, leftOf}
 use Rattle.generator.specs.declared.Profile.{Profile}
 use Rattle.generator.specs.declared.Drawn.{Drawn}
 use Rattle.generator.specs.Public.{drawnOf, refusedOf}
+use Rattle.generator_evenly.specs.declared.Drawn as counted
+use Rattle.generator_evenly.specs.Public.{bare}
+use Rattle.generator_evenly.specs.Public as evenly
 use Rattle.record_kept.specs.Kept.{kept-of}
 use Rattle.record_kept.specs.Kept as Kept
 use Rattle.image_form.specs.Layout.{imageBytes, imageOf, kernelOf, isImage}
@@ -86,9 +89,11 @@ drawAnswer s seed span weights = packedDrawn (drawOn s seed (toldProfile span we
 unfoldable pub drawSeed : List ℕ → ℕ → ℕ → List ℕ → ℕ
 drawSeed s seed span weights = drawOn s seed (toldProfile span weights) .seed
 
+abbrev pub valueLeft : Drawn → ℕ → ℕ
+valueLeft d value = cond (eqb (d .code) 0) (d .command .value) value
+
 unfoldable pub drawValue : List ℕ → ℕ → ℕ → List ℕ → ℕ → ℕ
-drawValue s seed span weights value =
-    let d = drawOn s seed (toldProfile span weights) in cond (eqb (d .code) 0) (d .command .value) value
+drawValue s seed span weights value = valueLeft (drawOn s seed (toldProfile span weights)) value
 
 -- A draw with its step: what is drawn is stepped, as a call of its own would step it. A refused draw steps nothing. In
 -- one number: the draw's answer + 4294967296 * the step's, which is 0 where there is none.
@@ -101,3 +106,22 @@ drawStepAnswer s seed span weights =
 unfoldable pub drawStepImage : List ℕ → ℕ → ℕ → List ℕ → List ℕ
 drawStepImage s seed span weights =
     let d = drawOn s seed (toldProfile span weights) in cond (eqb (d .code) 0) (stepImage s (to-rules (d .command))) s
+
+-- A draw by even choices (edition 2): the same over that generator's draw, which tells the draws that it spent.
+unfoldable pub drawEvenOn : List ℕ → ℕ → Profile → counted.Drawn
+drawEvenOn s seed p = cond (isImage s) (evenly.drawnOf (kernelOf s) seed p) (evenly.refusedOf 1 seed)
+
+-- In one number: what is drawn, as a draw of edition 1 tells it, + 4294967296 * the draws spent, which are 0 for a
+-- refusal.
+abbrev pub packedEven : counted.Drawn → ℕ
+packedEven d = packedDrawn (bare d) + 4294967296 * d .spent
+
+unfoldable pub drawEvenAnswer : List ℕ → ℕ → ℕ → List ℕ → ℕ
+drawEvenAnswer s seed span weights = packedEven (drawEvenOn s seed (toldProfile span weights))
+
+-- The seed and the value that are left: as those of a draw of edition 1.
+unfoldable pub drawEvenSeed : List ℕ → ℕ → ℕ → List ℕ → ℕ
+drawEvenSeed s seed span weights = drawEvenOn s seed (toldProfile span weights) .seed
+
+unfoldable pub drawEvenValue : List ℕ → ℕ → ℕ → List ℕ → ℕ → ℕ
+drawEvenValue s seed span weights value = valueLeft (bare (drawEvenOn s seed (toldProfile span weights))) value

@@ -22,6 +22,8 @@ use Rattle.image_edge.proofs.profile
 use Rattle.image_edge.proofs.pack_left
 use Rattle.image_edge.proofs.pack_drawn
 use Rattle.image_edge.proofs.pack_both
+use Rattle.image_edge.proofs.bare
+use Rattle.image_edge.proofs.pack_even
 use Rattle.image_edge.proofs.leave
 use Rattle.image_edge.proofs.keep
 
@@ -50,6 +52,12 @@ module _ {M : Type 1} (𝓤 : URA M) (H : Heap 𝓤) (A : Atoms 𝓤) (mem : Mem
 
   pub pack-both-single : OneAnswer 𝓤 pack_both.ended (pack_both.clauses 𝓤 H A mem run)
   pack-both-single κs a g r s d e = one 𝓤 _ _ _
+
+  pub bare-single : OneAnswer 𝓤 bare.ended (bare.clauses 𝓤 H A mem run)
+  bare-single κs a g r s d e = one 𝓤 _ _ _
+
+  pub pack-even-single : OneAnswer 𝓤 pack_even.ended (pack_even.clauses 𝓤 H A mem run)
+  pack-even-single κs a g r s d e = one 𝓤 _ _ _
 
   -- the seed and the value
   pub leave-single : OneEnd 𝓤 leave.ended (leave.clauses 𝓤 H A mem run) (ℕ × ℕ) (λ κs r e. (now (e .1 .0), now (e .1 .1 .0)))

@@ -13,12 +13,9 @@ use Rattle.image_calls.specs.Calls.{packed, packedDrawn}
 abbrev pub imageLeft : List ℕ → Kernel → Answer → List ℕ
 imageLeft s k a = cond (eqb (a .code) 0) (laid s k) s
 
--- The seed and the value: those of a draw that is made.
+-- The seed: that of a draw that is made. (The value that is left: image_calls/specs/Calls.)
 abbrev pub seedLeft : Drawn → ℕ → ℕ
 seedLeft d seed = cond (eqb (d .code) 0) (d .seed) seed
-
-abbrev pub valueLeft : Drawn → ℕ → ℕ
-valueLeft d value = cond (eqb (d .code) 0) (d .command .value) value
 
 -- A draw with its step in one number: the draw's answer + 4294967296 * the step's, which is 0 where there is none.
 abbrev pub packedBoth : Drawn → Answer → ℕ

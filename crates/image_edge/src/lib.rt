@@ -8,7 +8,9 @@ ghost use Prim.Native.Nat.{_<_};
 ghost use Rattle.kernel.specs.Public.{to-rules};
 ghost use Rattle.kernel.specs.Step.{tables};
 ghost use Rattle.image_calls.specs.Calls.{told, fitted, fittedTask, packed, packedLeft, fittedProfile, packedDrawn};
-ghost use Rattle.image_edge.specs.Edge.{imageLeft, seedLeft, valueLeft, packedBoth};
+ghost use Rattle.image_calls.specs.Calls.{valueLeft, packedEven};
+ghost use Rattle.generator_evenly.specs.Public as evenly;
+ghost use Rattle.image_edge.specs.Edge.{imageLeft, seedLeft, packedBoth};
 use generator::Drawn;
 use generator::Profile;
 use kernel::Answer;
@@ -134,6 +136,25 @@ pub fn pack_both(d: Drawn, a: Answer) -> u64
         return drawn;
     }
     drawn + 4294967296 * wider(pack(a))
+}
+
+// What a draw by even choices tells, without the draws that it spent: as a draw of edition 1 tells it.
+pub fn bare(d: generator_evenly::Drawn) -> Drawn
+    ensures { λ r. ⌜ r ≡ evenly.bare d ⌝ }
+{
+    let command = d.command;
+    Drawn {
+        code: d.code,
+        command,
+        seed: d.seed,
+    }
+}
+
+// A draw by even choices: as one of edition 1, + 4294967296 * the draws that it spent.
+pub fn pack_even(d: generator_evenly::Drawn) -> u64
+    ensures { λ r. ⌜ r ≡ packedEven d ⌝ }
+{
+    wider(pack_drawn(bare(d))) + 4294967296 * wider(wide(d.spent))
 }
 
 // ---- What is left in what was lent

@@ -1,10 +1,10 @@
 -- `pack_both` meets its contract: each exit by the code. Assumes nothing.
-use Prim.Native.Nat.{ℕ, _+_, _*_}
 use native.Mathlib.Nat.{add-zero}
-use mathlib.Core.Path.{_≡_, sym, _∙_}
+use mathlib.Core.Path.{sym, _∙_}
 use borrow.Author.Needs.{needs}
 use borrow.Author.Tests.{eq-eqb, ne-eqb}
 use Rattle.image_calls.specs.Calls.{packedDrawn}
+use Rattle.image_edge.proofs.Halves.{same-halves}
 use Rattle.image_edge.proofs.pack_both.Statement.{statement}
 use Rattle.image_edge.proofs.pack_both.Tie as tie
 
@@ -32,16 +32,13 @@ mul-result c = search needs
 add-result : tie.Need-add-result
 add-result c = search needs
 
-sum : {m n x y : ℕ} → m ≡ n → x ≡ y → m + 4294967296 * x ≡ n + 4294967296 * y
-sum p q = cc
-
 returns-2 : tie.Need-returns-2
 returns-2 c =
     let test = c .before .before in
     let drawn = test .before in
     let d = drawn .before .before .args .d in
     rw (eq-eqb (d .code) 0 (test .if1 .left))
-    (sum (drawn .wider .ensures .0 ∙ drawn .before .pack-drawn .ensures) (c .wider2 .ensures .0 ∙ c .before .pack .ensures))
+    (same-halves (drawn .wider .ensures .0 ∙ drawn .before .pack-drawn .ensures) (c .wider2 .ensures .0 ∙ c .before .pack .ensures))
 
 pub pack-both-spec : {M : Type 1} → statement M
 pack-both-spec =
