@@ -74,6 +74,11 @@ runs draw
 $run "$out/draw" 20000 >"$out/draw.many" || { tail -n 1 "$out/draw.many" >&2; fail "host/draw.c failed, as it says above"; }
 runs even
 diff "$root/crates/generator_run_evenly/stdout" "$out/even.stdout" >&2 || fail "host/even.c prints other lines (>) than program generator_run_evenly (<)"
+# The rows that the second program's draws of edition 2 are held to; not its single choices, which no call makes.
+rows=$root/second/cases/even.txt
+sed -n '/^<below /d; s/^<//p' "$rows" | $run "$out/even" lines >"$out/even.rows" || fail "host/even.c cannot read the rows of second/cases/even.txt"
+awk '/^</ { choice = /^<below / } /^>/ && !choice { print substr($0, 2) }' "$rows" | diff - "$out/even.rows" >&2 ||
+    fail "host/even.c draws otherwise (>) than second/cases/even.txt says (<)"
 runs hostile "$root/crates/kernel_cases/stdin"
 runs hostile_tapes
 runs stack

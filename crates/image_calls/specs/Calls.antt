@@ -84,11 +84,11 @@ packedDrawn d = d .code + 256 * d .command .op + 65536 * d .command .a + 1677721
 unfoldable pub drawAnswer : List ℕ → ℕ → ℕ → List ℕ → ℕ
 drawAnswer s seed span weights = packedDrawn (drawOn s seed (toldProfile span weights))
 
--- The seed that an accepted draw leaves is advanced, and its value is the drawn command's; a refused one leaves both
--- as they were.
+-- The seed that an accepted draw leaves is advanced; a refused one leaves it as it was.
 unfoldable pub drawSeed : List ℕ → ℕ → ℕ → List ℕ → ℕ
 drawSeed s seed span weights = drawOn s seed (toldProfile span weights) .seed
 
+-- The value that is left, of either edition: the drawn command's; a refused draw leaves what was there.
 abbrev pub valueLeft : Drawn → ℕ → ℕ
 valueLeft d value = cond (eqb (d .code) 0) (d .command .value) value
 
@@ -119,7 +119,7 @@ packedEven d = packedDrawn (bare d) + 4294967296 * d .spent
 unfoldable pub drawEvenAnswer : List ℕ → ℕ → ℕ → List ℕ → ℕ
 drawEvenAnswer s seed span weights = packedEven (drawEvenOn s seed (toldProfile span weights))
 
--- The seed and the value that are left: as those of a draw of edition 1.
+-- The seed that an accepted one leaves is advanced by the draws spent; a refused one leaves it and the value.
 unfoldable pub drawEvenSeed : List ℕ → ℕ → ℕ → List ℕ → ℕ
 drawEvenSeed s seed span weights = drawEvenOn s seed (toldProfile span weights) .seed
 
