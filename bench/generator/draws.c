@@ -1,4 +1,5 @@
-/* What crates/generator_run_evenly prints, in C, for speed: draws by edition 2 with the step of kernel.h. The state is tested once for each drawn command. */
+/* 100,000 draws with their steps, in C, for speed: with EDITION 1 what crates/generator_run prints, with EDITION 2 what crates/generator_run_evenly prints. The step is
+ * that of kernel.h, and the state is tested once for each drawn command. */
 #include <stdio.h>
 #include <string.h>
 #include "../step/kernel.h"
@@ -6,7 +7,7 @@
 static kernel k;
 static uint32_t seed, spent, sum;
 static uint64_t total_spent;
-static const uint32_t span = 1000000, weights[8] = { 10, 30, 20, 10, 10, 10, 20, 10 };
+static const uint32_t span = EDITION == 1 ? 1000 : 1000000, weights[8] = { 10, 30, 20, 10, 10, 10, 20, 10 };
 
 static void mix(uint64_t x) {
     sum = sum * 31 + (uint32_t)x + (uint32_t)(x >> 32);
@@ -23,8 +24,9 @@ static inline uint32_t draw(void) {
     return seed;
 }
 
-/* A number below n by even odds: at most eight draws, the eighth as it comes. */
+/* A number below n. Edition 1: the remainder of a draw. Edition 2, even odds: at most eight draws, the eighth as it comes. */
 static inline uint32_t below(uint32_t n) {
+    if (EDITION == 1) return draw() % n;
     uint32_t limit = UINT32_MAX - UINT32_MAX % n, v;
     for (unsigned i = 0; i < 7; i++) {
         v = draw() - 1;
@@ -89,10 +91,12 @@ static void ask(uint8_t op, uint8_t a, uint8_t b) {
 }
 
 static void show(unsigned n) {
-    printf("%u %u %llu %u %llu %u\n", n, k.ready[0], (unsigned long long)k.clock, seed, (unsigned long long)total_spent, sum);
+    printf("%u %u %llu %u ", n, k.ready[0], (unsigned long long)k.clock, seed);
+    if (EDITION == 2) printf("%llu ", (unsigned long long)total_spent);
+    printf("%u\n", sum);
 }
 
-static void run(uint32_t from) {
+static void run(uint32_t from, unsigned count) {
     static const uint8_t tasks[8][2] = { { 1, 3 }, { 2, 5 }, { 3, 3 }, { 4, 9 }, { 5, 1 }, { 6, 15 }, { 7, 7 }, { 31, 5 } };
     static const uint8_t objects[5][2] = { { 1, 4 }, { 2, 9 }, { 3, 15 }, { 4, 5 }, { 7, 12 } };
     memset(&k, 0, sizeof k);
@@ -101,20 +105,22 @@ static void run(uint32_t from) {
     for (unsigned i = 0; i < 5; i++) ask(2, objects[i][0], objects[i][1]);
     ask(3, 0, 0);
     show(0);
-    for (unsigned n = 1; n <= 25000; n++) {
+    for (unsigned n = 1; n <= count; n++) {
         if (!sound(&k)) return;
         spent = 0;
         command c = drawn();
         total_spent += spent;
         answer r = step_trusting(&k, c);
-        mix(0), mix(spent);
+        mix(0);
+        if (EDITION == 2) mix(spent);
         told(c, r);
-        if (n % 5000 == 0) show(n);
+        if (n % (EDITION == 1 ? 10000 : 5000) == 0) show(n);
     }
 }
 
 int main(void) {
-    puts("draws running clock seed spent sum");
-    run(1), run(2147483649u), run(2159691842u), run(4294967295u);
+    puts(EDITION == 1 ? "draws running clock seed sum" : "draws running clock seed spent sum");
+    if (EDITION == 1) run(1, 100000);
+    else run(1, 25000), run(2147483649u, 25000), run(2159691842u, 25000), run(4294967295u, 25000);
     return 0;
 }
