@@ -10,8 +10,8 @@ use borrow.Author.Tests.{eqb-true}
 use Rattle.rules.specs.declared.Kind.{Kind}
 use Rattle.rules.specs.Machine.{Command, for-entry}
 use Rattle.kernel_line.specs.Tables.{place, pop, later, with-time}
-use Rattle.kernel_ready.specs.Ready.{runner-in, popped, to-tail}
-use Rattle.kernel_ops.specs.Moves.{waits-in, served-line, closed-line}
+use Rattle.kernel_ready.specs.Ready.{runner-in, popped, to-tail, released-line}
+use Rattle.kernel_ops.specs.Moves.{waits-in, closed-line}
 use Rattle.kernel.specs.declared.Kernel.{Kernel}
 use Rattle.kernel.specs.declared.Stepped.{Stepped}
 use Rattle.kernel.specs.Lent.{tables, Ends}
@@ -81,7 +81,7 @@ module _ (k : Kernel) where
   -- the end of a body, whoever waits
   pub ending : (o : ℕ) (serves : Bool) →
       let t = waits-in (k .waiter) o serves in
-      let l = served-line (k .base) (k .ceiling) (k .held) t (k .ready) in Carried
+      let l = released-line (k .base) (k .ceiling) (k .held) t (k .ready) in Carried
       (tables (k .base) (closed-line (k .base) (k .ceiling) (k .held) l) (k .delayed) (set (k .held) (runner-in l) 0) (set (k .way) (runner-in l) 0) (k .until)
       (k .ceiling)
       (cond (eqb t 0) (k .waiter) (set (k .waiter) o 0)) (k .clock) (k .started))

@@ -1,5 +1,5 @@
 // The step and the test on lent tables: an accepted command is carried out where they lie, a refused one leaves them as
-// they are. (What each op does to them: crate kernel_ops. When it is refused: crate kernel_checks.)
+// they are. (What each op does to them: crates kernel_ops and kernel_time. When it is refused: crate kernel_checks.)
 ghost use Prim.Native.Nat.{ℕ, _<_, _^_};
 ghost use mathlib.Core.Path.{_≡_};
 ghost use lib.ListN.{length};
@@ -60,7 +60,7 @@ fn carry(
         Kind::Creating => kernel_ops::create(base, ready, tops, held, TaskID(c.a), c.b),
         Kind::Declaring => kernel_ops::declare(ceiling, POId(c.a), c.b),
         Kind::Starting => kernel_ops::begin(started),
-        Kind::Delaying => kernel_ops::delay(
+        Kind::Delaying => kernel_time::delay(
             base,
             ready,
             delayed,
@@ -70,8 +70,8 @@ fn carry(
             *clock,
             c.value,
         ),
-        Kind::Waking => kernel_ops::wake(base, ready, delayed, held, until, tops, *clock),
-        Kind::Advancing => kernel_ops::advance(clock, c.value),
+        Kind::Waking => kernel_time::wake(base, ready, delayed, held, until, tops, *clock),
+        Kind::Advancing => kernel_time::advance(clock, c.value),
         Kind::Opening => kernel_ops::hold(ready, held, way, POId(c.a), 1),
         Kind::Entering => kernel_ops::enter(ready, held, way, waiter, POId(c.a), c.b),
         Kind::Ending(e) => {

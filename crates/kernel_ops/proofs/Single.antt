@@ -1,4 +1,4 @@
--- No second answer of the ops: of any tables, only one contents of those that are lent to be changed meets each contract as the check states it, and only one
+-- No second answer of the ops of set-up and of objects: of any tables, only one contents of those that are lent to be changed meets each contract as the check states it, and only one
 -- released task (the law and what it says: crate one_answer, proofs/Law). Rules out: an op that may leave a table as it was. Assumes nothing.
 use Prim.Native.Nat.{ℕ}
 use mathlib.Core.Bool.{Bool}
@@ -16,21 +16,11 @@ use Rattle.one_answer.proofs.Law.{OneEnd, both, each-of-two, each-of-three}
 use Rattle.kernel_ops.proofs.create
 use Rattle.kernel_ops.proofs.declare
 use Rattle.kernel_ops.proofs.begin
-use Rattle.kernel_ops.proofs.delay
-use Rattle.kernel_ops.proofs.wake
-use Rattle.kernel_ops.proofs.advance
 use Rattle.kernel_ops.proofs.hold
 use Rattle.kernel_ops.proofs.enter
 use Rattle.kernel_ops.proofs.end
 
--- four parts, and five, each equal to a third's
-same-four : {r s : ℕ} {k l m n u v : List ℕ} → r ≡ s → k ≡ l → m ≡ n → u ≡ v → _≡_ {A = ℕ × List ℕ × List ℕ × List ℕ} (r, k, m, u) (s, l, n, v)
-same-four p q h i = cc
-
-each-of-four : {x r s : ℕ} {w k l y m n z u v : List ℕ} → (r ≡ x) × (k ≡ w) × (m ≡ y) × (u ≡ z) → (s ≡ x) × (l ≡ w) × (n ≡ y) × (v ≡ z)
-    → _≡_ {A = ℕ × List ℕ × List ℕ × List ℕ} (r, k, m, u) (s, l, n, v)
-each-of-four p q = same-four (p .0 ∙ sym (q .0)) (p .1 ∙ sym (q .1)) (p .2 ∙ sym (q .2)) (p .3 ∙ sym (q .3))
-
+-- five parts, each equal to a third's
 same-five : {r s : ℕ} {k l m n u v f g : List ℕ} → r ≡ s → k ≡ l → m ≡ n → u ≡ v → f ≡ g
     → _≡_ {A = ℕ × List ℕ × List ℕ × List ℕ × List ℕ} (r, k, m, u, f) (s, l, n, v, g)
 same-five p q h i j = cc
@@ -49,17 +39,6 @@ module _ {M : Type 1} (𝓤 : URA M) (H : Heap 𝓤) (A : Atoms 𝓤) (mem : Mem
 
   pub begin-single : OneEnd 𝓤 begin.ended (begin.clauses 𝓤 H A mem run) (ℕ × Bool) (λ κs r e. (r, now (e .0)))
   begin-single κs a g r s d e = both 𝓤 _ _ _ each-of-two
-
-  pub delay-single : OneEnd 𝓤 delay.ended (delay.clauses 𝓤 H A mem run) (ℕ × List ℕ × List ℕ × List ℕ)
-      (λ κs r e. (r, now (e .1 .0), now (e .1 .1 .0), now (e .1 .1 .1 .1 .0)))
-  delay-single κs a g r s d e = both 𝓤 _ _ _ each-of-four
-
-  pub wake-single : OneEnd 𝓤 wake.ended (wake.clauses 𝓤 H A mem run) (ℕ × List ℕ × List ℕ × List ℕ)
-      (λ κs r e. (r, now (e .1 .0), now (e .1 .1 .0), now (e .1 .1 .1 .1 .0)))
-  wake-single κs a g r s d e = both 𝓤 _ _ _ each-of-four
-
-  pub advance-single : OneEnd 𝓤 advance.ended (advance.clauses 𝓤 H A mem run) (ℕ × ℕ) (λ κs r e. (r, now (e .0)))
-  advance-single κs a g r s d e = both 𝓤 _ _ _ each-of-two
 
   pub hold-single : OneEnd 𝓤 hold.ended (hold.clauses 𝓤 H A mem run) (ℕ × List ℕ × List ℕ) (λ κs r e. (r, now (e .1 .0), now (e .1 .1 .0)))
   hold-single κs a g r s d e = both 𝓤 _ _ _ each-of-three

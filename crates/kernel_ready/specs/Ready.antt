@@ -41,6 +41,10 @@ headed base ceiling held p t line = tailed base ceiling held (more p) t line
 abbrev pub to-tail : List ℕ → List ℕ → List ℕ → ℕ → List ℕ → List ℕ
 to-tail base ceiling held t line = tailed base ceiling held (at base t) t line
 
+-- The line once a task is released: it stands at the tail of its base. 0 is nobody.
+abbrev pub released-line : List ℕ → List ℕ → List ℕ → ℕ → List ℕ → List ℕ
+released-line base ceiling held t line = cond (eqb t 0) line (to-tail base ceiling held t line)
+
 -- A task's number as the code hands it back.
 abbrev pub task : ℕ → TaskID
 task t = record { 0 = t }

@@ -2,8 +2,8 @@
 use mathlib.Core.Path.{refl}
 use borrow.Author.Tests.{lt-ltb, le-ltb}
 use borrow.Author.Needs.{needs}
-use Rattle.kernel_ops.proofs.delay.Statement.{statement}
-use Rattle.kernel_ops.proofs.delay.Tie as tie
+use Rattle.kernel_time.proofs.delay.Statement.{statement}
+use Rattle.kernel_time.proofs.delay.Tie as tie
 
 sleep-requires : tie.Need-sleep-requires
 sleep-requires c κs = search needs

@@ -1,8 +1,8 @@
 -- `rouse` meets its contract: the ready line by the call that places, the delay line without its front, the time cleared. Assumes nothing.
 use mathlib.Core.Path.{refl}
 use borrow.Author.Needs.{needs}
-use Rattle.kernel_ops.proofs.rouse.Statement.{statement}
-use Rattle.kernel_ops.proofs.rouse.Tie as tie
+use Rattle.kernel_time.proofs.rouse.Statement.{statement}
+use Rattle.kernel_time.proofs.rouse.Tie as tie
 
 to-tail-requires : tie.Need-to-tail-requires
 to-tail-requires c κs = search needs

@@ -1,7 +1,7 @@
 -- `kernel_ops::due` meets its contract: the time of the first delay entry is looked up. Assumes nothing.
 use borrow.Author.Needs.{needs}
-use Rattle.kernel_ops.proofs.due.Statement.{statement}
-use Rattle.kernel_ops.proofs.due.Tie as tie
+use Rattle.kernel_time.proofs.due.Statement.{statement}
+use Rattle.kernel_time.proofs.due.Tie as tie
 
 element-copy-out-t : tie.Need-element-copy-out-t
 element-copy-out-t c = search needs

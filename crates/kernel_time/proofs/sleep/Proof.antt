@@ -1,8 +1,8 @@
 -- `sleep` meets its contract: the front is taken off and put into the delay line by its time, which it is given. Assumes nothing.
 use mathlib.Core.Path.{refl}
 use borrow.Author.Needs.{needs}
-use Rattle.kernel_ops.proofs.sleep.Statement.{statement}
-use Rattle.kernel_ops.proofs.sleep.Tie as tie
+use Rattle.kernel_time.proofs.sleep.Statement.{statement}
+use Rattle.kernel_time.proofs.sleep.Tie as tie
 
 runner-requires : tie.Need-runner-requires
 runner-requires c κs = search needs

@@ -4,8 +4,8 @@ use mathlib.Core.Path.{refl}
 use native.Mathlib.Omega.{arith}
 use borrow.Author.Tests.{lt-ltb, le-ltb}
 use borrow.Author.Needs.{needs}
-use Rattle.kernel_ops.proofs.advance.Statement.{statement}
-use Rattle.kernel_ops.proofs.advance.Tie as tie
+use Rattle.kernel_time.proofs.advance.Statement.{statement}
+use Rattle.kernel_time.proofs.advance.Tie as tie
 
 sub-if1 : tie.Need-sub-if1
 sub-if1 c = search needs

@@ -1,8 +1,8 @@
 -- `give_way` meets its contract: the front is taken off and put at the tail of its base. Assumes nothing.
 use mathlib.Core.Path.{refl}
 use borrow.Author.Needs.{needs}
-use Rattle.kernel_ops.proofs.give_way.Statement.{statement}
-use Rattle.kernel_ops.proofs.give_way.Tie as tie
+use Rattle.kernel_time.proofs.give_way.Statement.{statement}
+use Rattle.kernel_time.proofs.give_way.Tie as tie
 
 runner-requires : tie.Need-runner-requires
 runner-requires c κs = search needs

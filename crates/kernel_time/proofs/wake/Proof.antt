@@ -2,8 +2,8 @@
 use mathlib.Core.Path.{sym, _∙_}
 use borrow.Author.Tests.{eq-eqb, ne-eqb}
 use borrow.Author.Needs.{needs}
-use Rattle.kernel_ops.proofs.wake.Statement.{statement}
-use Rattle.kernel_ops.proofs.wake.Tie as tie
+use Rattle.kernel_time.proofs.wake.Statement.{statement}
+use Rattle.kernel_time.proofs.wake.Tie as tie
 
 due-requires : tie.Need-due-requires
 due-requires c κs = search needs
