@@ -11,8 +11,8 @@ ghost use Rattle.record.specs.Form.{le8, ofLe};
 ghost use Rattle.kernel.specs.Step.{tables};
 ghost use Rattle.image_form.specs.Layout.{imageBytes, bytesOf, numbersOf, flags, spare, part, clean, formed, readOf};
 ghost use Rattle.image_form.specs.Layout.{laid};
-use record::number_bytes;
-use record::number_of;
+use record_bytes::number_bytes;
+use record_bytes::number_of;
 
 // The length of an image.
 pub const IMAGE_BYTES: usize = 512;

@@ -13,9 +13,10 @@ use lib.Seq.{length-take-le, getD-take, getD-append-add, take-all, drop-drop}
 use Rattle.tape.proofs.Reading.{sixteen}
 use Rattle.kernel.specs.View.{pad}
 use Rattle.kernel.proofs.Padded.{pad-size}
-use Rattle.judging.specs.declared.Run.{Run}
+use Rattle.judge_onward.specs.declared.Run.{Run}
 use Rattle.judging.specs.declared.Judge.{Judge}
-use Rattle.judging.specs.Pieces.{Pending, byte, bytes, pending-of, fed, through, onward}
+use Rattle.judging.specs.Pieces.{Pending, byte, bytes, pending-of, fed, through}
+use Rattle.judge_onward.specs.Onward.{onward}
 
 -- ---- lists of 16
 

@@ -1,4 +1,3 @@
 pub mod Bytewise
-pub mod Exits
 pub mod Whole
 pub mod Single

@@ -31,15 +31,16 @@ use Rattle.judge_verdict.specs.declared.Judgement.{Judgement}
 use Rattle.judge_record.specs.declared.Stage.the-variants.{Going, Over}
 use Rattle.judge_record.specs.declared.Stage.{Stage}
 use Rattle.judge_record.specs.declared.Head.{Head}
-use Rattle.judging.specs.declared.Run.{Run}
+use Rattle.judge_onward.specs.declared.Run.{Run}
 use Rattle.judging.specs.declared.Judge.{Judge}
 use Rattle.record_kept.specs.Kept.{kept, kept-on, alike}
 use Rattle.judge_verdict.specs.Verdict.{command-of, difference, seed-shown, judged-from, verdict-of}
 use Rattle.judge_record.specs.Behind.{to-come, beyond, refused-at, refused, headed, compared}
-use Rattle.judging.specs.Pieces.{run-of, head-of, answered, taken, onward, Pending, byte, bytes, pending-of, judge-of, at-first, fed, ended, judged-in}
+use Rattle.judging.specs.Pieces.{Pending, byte, bytes, pending-of, judge-of, at-first, fed, ended, judged-in}
 use Rattle.judging.specs.Pieces.{joined}
 use Rattle.judging.proofs.Bytewise.{bytes-append, bytes-short, bytes-begun, few-begun, take-pad}
-use Rattle.judging.proofs.Exits.{onward-over}
+use Rattle.judge_onward.proofs.Exits.{onward-over}
+use Rattle.judge_onward.specs.Onward.{run-of, head-of, answered, taken, onward}
 
 -- ---- behind a verdict nothing changes
 

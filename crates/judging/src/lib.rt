@@ -15,6 +15,7 @@ ghost use Rattle.judging.specs.Pieces as pieces;
 
 mod in_place;
 
+pub use judge_onward::Run;
 use judge_record::Head;
 pub use judge_record::Stage;
 use judge_record::at_end;
@@ -27,14 +28,6 @@ pub use judge_verdict::Verdict;
 pub use kernel::Kernel;
 use record::RECORD_BYTES;
 
-// The records judged so far: the machine behind them, and the place of the next one, which is 16 times its number.
-pub struct Run {
-    pub kernel: Kernel,
-    pub place: usize,
-    pub seed: u64,
-    pub stage: Stage,
-}
-
 // A judge that is fed pieces: the whole records so far, and the first bytes of a record that is not whole yet.
 pub struct Judge {
     pub run: Run,
@@ -42,56 +35,54 @@ pub struct Judge {
     pub count: usize,
 }
 
-impl Run {
-    // The records that lie whole in a piece, from its start on.
-    fn records(self, piece: &[u8]) -> Run
-        ensures { λ r. ⌜ r ≡ pieces.through self (now (piece .entry)) .run ⌝ }
-    {
-        let machine = self.kernel;
-        let base = machine.base;
-        let ready = machine.ready;
-        let delayed = machine.delayed;
-        let held = machine.held;
-        let way = machine.way;
-        let until = machine.until;
-        let ceiling = machine.ceiling;
-        let waiter = machine.waiter;
-        let clock = machine.clock;
-        let started = machine.started;
-        let stage = self.stage;
-        let head = Head {
-            place: self.place,
-            seed: self.seed,
-            stage,
-        };
-        in_place::records(
-            base,
-            ready,
-            delayed,
-            held,
-            way,
-            until,
-            ceiling,
-            waiter,
-            clock,
-            started,
-            head,
-            piece,
-        )
-    }
+// The records that lie whole in a piece, from its start on.
+fn records(run: Run, piece: &[u8]) -> Run
+    ensures { λ r. ⌜ r ≡ pieces.through run (now (piece .entry)) .run ⌝ }
+{
+    let machine = run.kernel;
+    let base = machine.base;
+    let ready = machine.ready;
+    let delayed = machine.delayed;
+    let held = machine.held;
+    let way = machine.way;
+    let until = machine.until;
+    let ceiling = machine.ceiling;
+    let waiter = machine.waiter;
+    let clock = machine.clock;
+    let started = machine.started;
+    let stage = run.stage;
+    let head = Head {
+        place: run.place,
+        seed: run.seed,
+        stage,
+    };
+    in_place::records(
+        base,
+        ready,
+        delayed,
+        held,
+        way,
+        until,
+        ceiling,
+        waiter,
+        clock,
+        started,
+        head,
+        piece,
+    )
+}
 
-    // The same, and what is left of the piece is held.
-    fn through(self, piece: &[u8]) -> Judge
-        ensures { λ r. ⌜ r ≡ pieces.through self (now (piece .entry)) ⌝ }
-    {
-        let run = self.records(piece);
-        let at = RECORD_BYTES * (piece.len() >> 4);
-        let held = together([0; 16], 0, &piece[at..]);
-        Judge {
-            run,
-            held,
-            count: piece.len() - at,
-        }
+// The same, and what is left of the piece is held.
+fn through(run: Run, piece: &[u8]) -> Judge
+    ensures { λ r. ⌜ r ≡ pieces.through run (now (piece .entry)) ⌝ }
+{
+    let behind = records(run, piece);
+    let at = RECORD_BYTES * (piece.len() >> 4);
+    let held = together([0; 16], 0, &piece[at..]);
+    Judge {
+        run: behind,
+        held,
+        count: piece.len() - at,
     }
 }
 
@@ -169,8 +160,8 @@ impl Judge {
             };
         }
         // The record that was begun is whole now, and is judged alone.
-        let whole = run.records(&first);
-        whole.through(&piece[wanted..])
+        let whole = records(run, &first);
+        through(whole, &piece[wanted..])
     }
 
     // Whether a verdict is still to come. Behind it no piece changes anything (proofs/Whole, verdict-stays), so

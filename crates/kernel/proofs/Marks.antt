@@ -17,7 +17,7 @@ use Rattle.rules.proofs.Tests.{Tests, tests-and, tests-le, tests-ne, both-true}
 use Rattle.kernel_line.specs.Tables.{no-task}
 use Rattle.kernel_order.specs.Order.{ordered, met, marks}
 use Rattle.kernel.specs.View.{live}
-use Rattle.kernel_sound.specs.Test.{admits, holdersFit}
+use Rattle.kernel_cells.specs.Cells.{admits, holdersFit}
 
 -- The marks. A task met n more times, from the mark v on.
 unfoldable pub tally : ℕ → ℕ → ℕ → ℕ

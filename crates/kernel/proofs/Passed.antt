@@ -12,7 +12,8 @@ use Rattle.kernel_line.specs.Tables.{level}
 use Rattle.kernel_order.specs.Order.{ended}
 use Rattle.kernel.specs.declared.Kernel.{Kernel}
 use Rattle.kernel.specs.View.{live}
-use Rattle.kernel_sound.specs.Test.{taskFits, tasksFit, timesFit, objectFits, objectsFit, isCalm}
+use Rattle.kernel_cells.specs.Cells.{taskFits, tasksFit, timesFit, objectFits, objectsFit}
+use Rattle.kernel_sound.specs.Test.{isCalm}
 use Rattle.kernel_sound.specs.Test as table
 use Rattle.kernel.specs.Test.{placesOf, testOf}
 use Rattle.kernel.proofs.Padded.{free-at}

@@ -1,2 +1,1 @@
-mod Loops
 pub mod Single

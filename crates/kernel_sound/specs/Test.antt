@@ -1,48 +1,19 @@
 -- The test of a saved state as the code makes it, table by table. (Crate kernel shows that it is document 01's
 -- soundness of the machine that the tables stand for, with every unused cell 0: no more and no less.)
 use Prim.Native.Nat.{ℕ}
-use mathlib.Core.Bool.{Bool, true, cond, not, _&&_, _||_}
-use mathlib.Core.List.{List, [], _∷_}
-use lib.Dec.{eqb, leb, ltb}
-use lib.ListN.{set, replicate}
-use Rattle.rules.specs.Line.{at, all-below}
+use mathlib.Core.Bool.{Bool, _&&_, _||_}
+use mathlib.Core.List.{List}
+use lib.Dec.{eqb, leb}
+use lib.ListN.{replicate}
+use Rattle.rules.specs.Line.{at}
 use Rattle.kernel_line.specs.Tables.{zeros, no-task}
 use Rattle.kernel_order.specs.Order.{falls, rises, ended, marks}
+use Rattle.kernel_cells.specs.Cells.{tasksFit, timesFit, holdersFit, objectsFit}
 
 -- where each task stands: 1 ready, 2 delayed, 3 waiting, 0 nowhere, 9 twice
 unfoldable pub places : List ℕ → List ℕ → List ℕ → List ℕ
 places ready delayed waiter =
     marks (leb 32) 3 waiter (marks no-task 2 delayed (marks no-task 1 ready (replicate 32 0)))
-
-abbrev pub taskFits : ℕ → ℕ → ℕ → ℕ → Bool
-taskFits base place held way =
-    let stands = eqb base 0 && eqb place 0 || not (eqb base 0) && not (eqb place 0) in
-    let hands = eqb held 0 && eqb way 0 || not (eqb held 0) && not (eqb way 0) && eqb place 1 in
-    leb base 15 && leb place 3 && leb way 2 && stands && hands
-
-unfoldable pub tasksFit : List ℕ → List ℕ → List ℕ → List ℕ → Bool
-tasksFit base place held way = all-below 32 (λ t. taskFits (at base t) (at place t) (at held t) (at way t))
-
-unfoldable pub timesFit : List ℕ → List ℕ → Bool
-timesFit until place = all-below 32 (λ t. eqb (at until t) 0 || eqb (at place t) 2)
-
-abbrev pub admits : ℕ → ℕ → Bool
-admits ceiling base = not (eqb ceiling 0) && leb base ceiling
-
--- task by task: a holder's object is one that no task before it holds, and admits it
-unfoldable pub holdersFit : List ℕ → List ℕ → List ℕ → List ℕ → Bool
-holdersFit ceiling taken base [] = true
-holdersFit ceiling taken [] (o ∷ held) = true
-holdersFit ceiling taken (b ∷ base) (o ∷ held) =
-    cond (eqb o 0) (holdersFit ceiling taken base held)
-    (not (leb 8 o) && (eqb (at taken o) 0 && admits (at ceiling o) b) && holdersFit ceiling (set taken o 1) base held)
-
-abbrev pub objectFits : ℕ → ℕ → ℕ → ℕ → Bool
-objectFits o ceiling w base =
-    (not (eqb o 0) || eqb ceiling 0) && leb ceiling 15 && (eqb w 0 || ltb w 32 && admits ceiling base)
-
-unfoldable pub objectsFit : List ℕ → List ℕ → List ℕ → Bool
-objectsFit base ceiling waiter = all-below 8 (λ o. objectFits o (at ceiling o) (at waiter o) (at base (at waiter o)))
 
 abbrev pub isCalm : Bool → ℕ → ℕ → List ℕ → List ℕ → Bool
 isCalm started clock first waiter held = started || eqb clock 0 && eqb first 0 && zeros waiter && zeros held

@@ -9,32 +9,12 @@ use ghost.Atoms.{Atoms}
 use contract.Monad.{Fun}
 use Rattle.one_answer.proofs.Law.{OneAnswer, one}
 use Rattle.record.proofs.header
-use Rattle.record.proofs.number_of
-use Rattle.record.proofs.number_bytes
-use Rattle.record.proofs.record_of
-use Rattle.record.proofs.bytes_of
-use Rattle.record.proofs.is_marked
 use Rattle.record.proofs.choose
 use Rattle.record.proofs.fault
 
 module _ {M : Type 1} (𝓤 : URA M) (H : Heap 𝓤) (A : Atoms 𝓤) (mem : Memory → SProp 𝓤) (run : Routine → Fun 𝓤) where
   pub header-single : OneAnswer 𝓤 header.ended (header.clauses 𝓤 H A mem run)
   header-single κs a g r s d e = one 𝓤 _ _ _
-
-  pub number-of-single : OneAnswer 𝓤 number_of.ended (number_of.clauses 𝓤 H A mem run)
-  number-of-single κs a g r s d e = one 𝓤 _ _ _
-
-  pub number-bytes-single : OneAnswer 𝓤 number_bytes.ended (number_bytes.clauses 𝓤 H A mem run)
-  number-bytes-single κs a g r s d e = one 𝓤 _ _ _
-
-  pub record-of-single : OneAnswer 𝓤 record_of.ended (record_of.clauses 𝓤 H A mem run)
-  record-of-single κs a g r s d e = one 𝓤 _ _ _
-
-  pub bytes-of-single : OneAnswer 𝓤 bytes_of.ended (bytes_of.clauses 𝓤 H A mem run)
-  bytes-of-single κs a g r s d e = one 𝓤 _ _ _
-
-  pub is-marked-single : OneAnswer 𝓤 is_marked.ended (is_marked.clauses 𝓤 H A mem run)
-  is-marked-single κs a g r s d e = one 𝓤 _ _ _
 
   pub choose-single : OneAnswer 𝓤 choose.ended (choose.clauses 𝓤 H A mem run)
   choose-single κs a g r s d e = one 𝓤 _ _ _

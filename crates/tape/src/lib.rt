@@ -13,12 +13,12 @@ ghost use Rattle.tape.specs.Write.{writeCode, Written};
 ghost use Rattle.tape.specs.Read.{judged, endOf, readOf, numberOf, sizeOf, placeOf, codeAt, nextAt, PartAt};
 use record::RECORD_BYTES;
 pub use record::Record;
-use record::bytes_of;
 use record::choose;
 use record::fault;
 pub use record::header;
-use record::is_marked;
-pub use record::record_of;
+use record_bytes::bytes_of;
+use record_bytes::is_marked;
+pub use record_bytes::record_of;
 
 // ---- The writer
 
