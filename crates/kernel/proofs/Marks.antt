@@ -15,7 +15,8 @@ use Rattle.rules.proofs.Words.{All, Pairwise}
 use Rattle.rules.proofs.Lists.{all-map, eq-or-ne, set-either}
 use Rattle.rules.proofs.Tests.{Tests, tests-and, tests-le, tests-ne, both-true}
 use Rattle.kernel_line.specs.Tables.{no-task}
-use Rattle.kernel_order.specs.Order.{ordered, met, marks}
+use Rattle.kernel_order.specs.Order.{ordered}
+use Rattle.kernel_marks.specs.Marks.{met, marks}
 use Rattle.kernel.specs.View.{live}
 use Rattle.kernel_cells.specs.Cells.{admits, holdersFit}
 

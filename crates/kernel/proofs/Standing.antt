@@ -12,7 +12,7 @@ use Rattle.rules.specs.Sound.{standings}
 use Rattle.rules.proofs.Words.{All}
 use Rattle.rules.proofs.Lists.{count-snoc}
 use Rattle.kernel_line.specs.Tables.{no-task}
-use Rattle.kernel_order.specs.Order.{marks}
+use Rattle.kernel_marks.specs.Marks.{marks}
 use Rattle.kernel.specs.declared.Kernel.{Kernel}
 use Rattle.kernel.specs.View.{live, view}
 use Rattle.kernel_sound.specs.Test as table

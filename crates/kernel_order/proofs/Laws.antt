@@ -6,11 +6,11 @@ use mathlib.Core.Path.{_≡_, sym}
 use mathlib.Core.Bool.{Bool, true, false, cond, _&&_, and-true, and-assoc}
 use mathlib.Core.List.{List, _∷_}
 use lib.Dec.{eqb}
-use lib.ListN.{length, drop, set, drop-of-length-le}
+use lib.ListN.{length, drop, drop-of-length-le}
 use lib.Seq.{drop-cons}
 use borrow.Author.Tests.{eq-eqb, ne-eqb, le-leb, lt-leb}
 use Rattle.rules.specs.Line.{at, neighbours}
-use Rattle.kernel_order.specs.Order.{ordered, met, marks}
+use Rattle.kernel_order.specs.Order.{ordered}
 
 -- a loop that gathers a test of each two neighbours
 module _ (f : ℕ → ℕ → Bool) (l : List ℕ) (i : ℕ) (b : Bool) where
@@ -49,18 +49,3 @@ module _ (follows : ℕ → ℕ → Bool) (key : ℕ → ℕ) (last : ℕ) (l : 
   pub ordered-done : length l ≤ i → ordered follows key last (drop i l) ≡ true
   unfolding ordered
   ordered-done h = rw (drop-of-length-le l h)
-
--- a loop that marks
-module _ (stop : ℕ → Bool) (mark : ℕ) (l seen : List ℕ) (i : ℕ) where
-  pub marks-stop : i < length l → stop (at l i) ≡ true → marks stop mark (drop i l) seen ≡ seen
-  unfolding marks
-  marks-stop h e = rw (drop-cons l i 0 h, e)
-
-  pub marks-step : i < length l → stop (at l i) ≡ false
-      → marks stop mark (drop i l) seen ≡ marks stop mark (drop (i + 1) l) (set seen (at l i) (cond (eqb (at l i) 0) 0 (met mark (at seen (at l i)))))
-  unfolding marks
-  marks-step h e = rw (add-one, drop-cons l i 0 h, e)
-
-  pub marks-done : length l ≤ i → marks stop mark (drop i l) seen ≡ seen
-  unfolding marks
-  marks-done h = rw (drop-of-length-le l h)

@@ -8,20 +8,12 @@ use prog.Wp.{Heap}
 use ghost.Atoms.{Atoms}
 use contract.Monad.{Fun}
 use Rattle.one_answer.proofs.Law.{OneAnswer, one}
-use Rattle.kernel_order.proofs.mark_line
-use Rattle.kernel_order.proofs.mark_waiting
 use Rattle.kernel_order.proofs.is_ended
 use Rattle.kernel_order.proofs.is_free
 use Rattle.kernel_order.proofs.is_falling
 use Rattle.kernel_order.proofs.is_rising
 
 module _ {M : Type 1} (𝓤 : URA M) (H : Heap 𝓤) (A : Atoms 𝓤) (mem : Memory → SProp 𝓤) (run : Routine → Fun 𝓤) where
-  pub mark-line-single : OneAnswer 𝓤 mark_line.ended (mark_line.clauses 𝓤 H A mem run)
-  mark-line-single κs a g r s d e = one 𝓤 _ _ _
-
-  pub mark-waiting-single : OneAnswer 𝓤 mark_waiting.ended (mark_waiting.clauses 𝓤 H A mem run)
-  mark-waiting-single κs a g r s d e = one 𝓤 _ _ _
-
   pub is-ended-single : OneAnswer 𝓤 is_ended.ended (is_ended.clauses 𝓤 H A mem run)
   is-ended-single κs a g r s d e = one 𝓤 _ _ _
 

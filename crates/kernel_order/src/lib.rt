@@ -1,59 +1,12 @@
-// What a saved state's lines are looked at for: where each task stands, and whether a line has an end and an order. The
-// test of a saved state (crate kernel_sound) calls these. Each function is total, and no table of 32 goes into a call
+// What a saved state's lines are looked at for: whether a line has an end and an order. (Where each task stands: crate
+// kernel_marks.) The test of a saved state (crate kernel_sound) calls these. Each function is total, and no table of 32 goes into a call
 // inside a loop over 32.
 ghost use mathlib.Core.Path.{_≡_};
-ghost use lib.Dec.{leb};
-ghost use Rattle.kernel_line.specs.Tables.{zeros, no-task};
-ghost use Rattle.kernel_order.specs.Order.{ended, falls, rises, marks};
+ghost use Rattle.kernel_line.specs.Tables.{zeros};
+ghost use Rattle.kernel_order.specs.Order.{ended, falls, rises};
 use kernel_line::POId;
 use kernel_line::choose;
 use kernel_line::of_object;
-
-// ---- where a task stands
-
-// Where each task stands: the mark of the line or of the objects, on top of what was marked before; 9 for a task that
-// stands twice.
-pub fn mark_line(line: &[u8; 32], mark: u8, seen: [u8; 32]) -> [u8; 32]
-    ensures { λ r. ⌜ r ≡ marks no-task mark (now (line .entry)) seen ⌝ }
-{
-    let cells: &[u8] = line;
-    let mut out = seen;
-    let mut i = 0;
-    while i < 32 {
-        let x = cells[i];
-        if x == 0 {
-            return out;
-        }
-        if 32 <= x {
-            return out;
-        }
-        let j = x as usize;
-        let n = choose(out[j] == 0, mark, 9);
-        out[j] = n;
-        i += 1;
-    }
-    out
-}
-
-pub fn mark_waiting(waiter: [u8; 8], mark: u8, seen: [u8; 32]) -> [u8; 32]
-    ensures { λ r. ⌜ r ≡ marks (leb 32) mark waiter seen ⌝ }
-{
-    let mut out = seen;
-    let mut i = 0;
-    while i < 8 {
-        let x = waiter[i];
-        if 32 <= x {
-            return out;
-        }
-        let j = x as usize;
-        let n = choose(x == 0, 0, choose(out[j] == 0, mark, 9));
-        out[j] = n;
-        i += 1;
-    }
-    out
-}
-
-// ---- order
 
 // Behind a free place all are free. No exit before the end: so the compiler tests sixteen places at a time.
 pub fn is_ended(line: &[u8; 32]) -> bool

@@ -7,7 +7,8 @@ use lib.Dec.{eqb, leb}
 use lib.ListN.{replicate}
 use Rattle.rules.specs.Line.{at}
 use Rattle.kernel_line.specs.Tables.{zeros, no-task}
-use Rattle.kernel_order.specs.Order.{falls, rises, ended, marks}
+use Rattle.kernel_order.specs.Order.{falls, rises, ended}
+use Rattle.kernel_marks.specs.Marks.{marks}
 use Rattle.kernel_cells.specs.Cells.{tasksFit, timesFit, holdersFit, objectsFit}
 
 -- where each task stands: 1 ready, 2 delayed, 3 waiting, 0 nowhere, 9 twice

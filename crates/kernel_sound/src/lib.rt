@@ -1,5 +1,5 @@
 // The test of a saved state: document 01's conditions, and that every unused cell is 0. (The cells, table by table: crate
-// kernel_cells. The lines: crate kernel_order.)
+// kernel_cells. The lines: crates kernel_order and kernel_marks.)
 ghost use mathlib.Core.Path.{_≡_};
 ghost use Rattle.kernel_line.specs.Tables.{zeros};
 ghost use Rattle.kernel_sound.specs.Test as test;
@@ -47,9 +47,9 @@ pub fn tested<'a>(
     let ended = kernel_order::is_ended(ready) & kernel_order::is_ended(delayed);
     let falling = kernel_order::is_falling(ready, base, ceiling, held);
     let rising = kernel_order::is_rising(delayed, until);
-    let place = kernel_order::mark_line(ready, READY, [0; 32]);
-    let place = kernel_order::mark_line(delayed, DELAYED, place);
-    let place = kernel_order::mark_waiting(waiter, WAITING, place);
+    let place = kernel_marks::mark_line(ready, READY, [0; 32]);
+    let place = kernel_marks::mark_line(delayed, DELAYED, place);
+    let place = kernel_marks::mark_waiting(waiter, WAITING, place);
     let tasks = kernel_cells::tasks_fit(base, &place, held, way);
     let times = kernel_cells::times_fit(until, &place);
     let holders = kernel_cells::holders_fit(base, held, ceiling);
