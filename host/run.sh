@@ -79,8 +79,11 @@ rows=$root/second/cases/even.txt
 sed -n '/^<below /d; s/^<//p' "$rows" | $run "$out/even" lines >"$out/even.rows" || fail "host/even.c cannot read the rows of second/cases/even.txt"
 awk '/^</ { choice = /^<below / } /^>/ && !choice { print substr($0, 2) }' "$rows" | diff - "$out/even.rows" >&2 ||
     fail "host/even.c draws otherwise (>) than second/cases/even.txt says (<)"
+# The two that take longest, beside each other.
+runs hostile_tapes &
+tapes=$!
 runs hostile "$root/crates/kernel_cases/stdin"
-runs hostile_tapes
+wait "$tapes" || exit 2
 runs stack
 for name in walk draw; do
     diff "$root/crates/$name/stdout" "$out/$name.stdout" >&2 || fail "host/$name.c prints other lines (>) than program $name (<)"
