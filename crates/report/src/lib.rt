@@ -15,12 +15,12 @@ ghost use Rattle.report_text.specs.Report.{difference-text, verdict-text, repor
 ghost use Rattle.report.specs.Put.{Put};
 use decimal_print::put_decimal;
 use judge_record::place_of;
-use judging::Command;
-use judging::Difference;
-use judging::Judgement;
-use judging::Kept;
-use judging::Refusal;
-use judging::Verdict;
+use judge_verdict::Command;
+use judge_verdict::Difference;
+use judge_verdict::Judgement;
+use judge_verdict::Kept;
+use judge_verdict::Refusal;
+use judge_verdict::Verdict;
 use text_command::takes_a;
 use text_command::takes_b;
 use text_command::takes_value;
