@@ -17,7 +17,6 @@ use Rattle.kernel.specs.Lent.{tables}
 use Rattle.kernel.proofs.Kernel.fresh
 use Rattle.kernel.proofs.Kernel.sound
 use Rattle.kernel.proofs.Kernel.step
-use Rattle.kernel.proofs.Kernel.step_trusting as step-trusting
 use Rattle.kernel.proofs.Kernel.wakes_left
 use Rattle.kernel.proofs.in_place.sound as in-place-sound
 use Rattle.kernel.proofs.in_place.step as in-place-step
@@ -32,9 +31,6 @@ module _ {M : Type 1} (𝓤 : URA M) (H : Heap 𝓤) (A : Atoms 𝓤) (mem : Mem
 
   pub step-single : OneAnswer 𝓤 step.ended (step.clauses 𝓤 H A mem run)
   step-single κs a g r s d e = one 𝓤 _ _ _
-
-  pub step-trusting-single : OneAnswer 𝓤 step-trusting.ended (step-trusting.clauses 𝓤 H A mem run)
-  step-trusting-single κs a g r s d e = one 𝓤 _ _ _
 
   pub wakes-left-single : OneAnswer 𝓤 wakes_left.ended (wakes_left.clauses 𝓤 H A mem run)
   wakes-left-single κs a g r s d e = one 𝓤 _ _ _

@@ -136,49 +136,6 @@ impl Kernel {
         Stepped { next, answer }
     }
 
-    // The step that trusts its state to be sound and does not test it: of a sound state it is `step`. Any tables get
-    // one answer, which for a forged state is no step of document 01.
-    pub fn step_trusting(self, c: Command) -> Stepped
-        ensures { λ r. ⌜ r ≡ step.steppedOf self (to-rules c) ⌝ }
-    {
-        let mut base = self.base;
-        let mut ready = self.ready;
-        let mut delayed = self.delayed;
-        let mut held = self.held;
-        let mut way = self.way;
-        let mut until = self.until;
-        let mut ceiling = self.ceiling;
-        let mut waiter = self.waiter;
-        let mut clock = self.clock;
-        let mut started = self.started;
-        let answer = in_place::step_trusting(
-            &mut base,
-            &mut ready,
-            &mut delayed,
-            &mut held,
-            &mut way,
-            &mut until,
-            &mut ceiling,
-            &mut waiter,
-            &mut clock,
-            &mut started,
-            c,
-        );
-        let next = Kernel {
-            base,
-            ready,
-            delayed,
-            held,
-            way,
-            until,
-            ceiling,
-            waiter,
-            clock,
-            started,
-        };
-        Stepped { next, answer }
-    }
-
     // How many accepted Wakes there are until the one that releases the task, that one counted; 0 where it is not
     // delayed and due.
     pub fn wakes_left(self, t: TaskID) -> Left
