@@ -1,7 +1,7 @@
 // What the ops of set-up and of objects do to the tables, in place: a function is lent the tables that it reads or
 // changes, and no other. It answers the task that it releases, 0 for nobody. (Delays, Wakes and the clock: crate
-// kernel_time. Which kind of command does what: crate kernel. When it is refused: crate kernel_checks.) Each `&` has its
-// own lifetime: with one for several a caller could not lend what it was lent itself.
+// kernel_time. Which kind of command does what: crate kernel. When it is refused: crate kernel_checks.) Each `&` has
+// its own lifetime: with one for several a caller could not lend what it was lent itself.
 ghost use mathlib.Core.Path.{_≡_};
 ghost use mathlib.Core.Bool.{true, cond};
 ghost use lib.Dec.{eqb};

@@ -1,6 +1,6 @@
 // What a saved state's lines are looked at for: whether a line has an end and an order. (Where each task stands: crate
-// kernel_marks.) The test of a saved state (crate kernel_sound) calls these. Each function is total, and no table of 32 goes into a call
-// inside a loop over 32.
+// kernel_marks.) The test of a saved state (crate kernel_sound) calls these. Each function is total, and no table of 32
+// goes into a call inside a loop over 32.
 ghost use mathlib.Core.Path.{_≡_};
 ghost use Rattle.kernel_line.specs.Tables.{zeros};
 ghost use Rattle.kernel_order.specs.Order.{ended, falls, rises};
