@@ -20,7 +20,7 @@ LONGEST = 4096
 
 # Words of make_torn: kind, number, length. Kinds that the tapes by hand show well are not here.
 MADE = (('cut_out', 1, 250), ('put_in', 1, 80), ('overwritten', 1, 80), ('blocks', 1, 200), ('joined', 1, 40), ('lone_marks', 1, 80), ('overlapping', 1, 60),
-        ('near', 1, 100), ('junk', 1, 100), ('mixed', 1, 100))
+        ('junk', 1, 100), ('mixed', 1, 100))
 
 
 # ---- Tapes made by hand, each with its dropped stretches: first byte, length
@@ -46,6 +46,7 @@ def whole_tapes():
     yield 'the empty tape', b'', []
     yield "document 01's walk, undamaged", DOCUMENT, []
     yield 'undamaged, of edition 2 and the largest seed', header(2**32 - 1, edition=2) + walk(1, 5), []
+    yield 'a header alone', header(2647435461), []
     yield 'records without a header', walk(3, 16), []
 
 

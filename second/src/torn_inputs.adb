@@ -211,11 +211,14 @@ package body Torn_Inputs is
          when 2      => 16,
          when others => Between (1, 40));
 
-   --  How many places of a tape are damaged: one, or one in eight records.
+   --  How many places of a tape are damaged: one, or one in eight records; of
+   --  a long tape always many.
    function Some_Count return Positive is
       Most : constant Positive := 1 + Natural'Min (Record_Count / 8, 300);
    begin
-      return (if Chance (40) then 1 else Between (1, Most));
+      return (if Record_Count > 10_000 then Between (Most / 2, Most)
+              elsif Chance (40) then 1
+              else Between (1, Most));
    end Some_Count;
 
    --  A byte of the tape; where records begin that are not out of step, or by
@@ -279,16 +282,16 @@ package body Torn_Inputs is
       end loop;
    end Overwrite_Some;
 
-   --  Blocks of one size.  On long tapes some are longer than what a program
+   --  Blocks of one size.  On long tapes they are longer than what a program
    --  reads in one piece.
    procedure Lose_Blocks is
       Size : constant Positive :=
-        (case Below (4) is
-            when 0      => 64,
-            when 1      => 512,
-            when 2      => Between (100, 1000),
-            when others => (if Natural (Tape.Length) > 1_000_000 then 200_000
-                            else 256));
+        (if Natural (Tape.Length) > 1_000_000 then 200_000
+         else (case Below (4) is
+                  when 0      => 64,
+                  when 1      => 512,
+                  when 2      => Between (100, 1000),
+                  when others => 256));
    begin
       for I in 1 .. Between (1, 4) loop
          exit when Tape.Is_Empty;
@@ -485,10 +488,11 @@ package body Torn_Inputs is
          Add_Whole (Length);
       end if;
       for I in 1 .. Between (2, 5) loop
-         What := Some_Kind;
-         if What in Harm and then What /= Headless then
-            Do_Harm (What);
-         end if;
+         loop
+            What := Some_Kind;
+            exit when What in Harm and then What /= Headless;
+         end loop;
+         Do_Harm (What);
       end loop;
    end Mix;
 
