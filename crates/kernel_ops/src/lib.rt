@@ -6,7 +6,7 @@ ghost use mathlib.Core.Bool.{true, cond};
 ghost use Prim.Native.Nat.{_+_, _^_};
 ghost use lib.Dec.{eqb, ltb};
 ghost use lib.ListN.{set};
-ghost use Rattle.rules.specs.Line.{at};
+ghost use Rattle.rules.specs.Machine.{for-entry};
 ghost use Rattle.kernel_line.specs.Tables.{place, pop, later, with-time};
 ghost use Rattle.kernel_ready.specs.Ready.{runner-in, popped, tailed, to-tail};
 ghost use Rattle.kernel_ops.specs.Moves.{due-in, waits-in, served-line, closed-line};
@@ -106,7 +106,7 @@ fn due(delayed: &[u8; 32], until: &[u64; 32], clock: u64) -> u8
     ensures { λ r. ⌜ r ≡ due-in (now (delayed .entry)) (now (until .entry)) clock ⌝ }
 {
     let t = delayed[0];
-    kernel_line::choose(kernel_line::time_of(until, TaskID(t)) <= clock, t, 0)
+    numbers::choose(kernel_line::time_of(until, TaskID(t)) <= clock, t, 0)
 }
 
 // 5, where the first delay entry is due: it goes to the tail of its base
@@ -205,7 +205,7 @@ fn waiting(waiter: &[u8; 8], o: POId, serves: bool) -> u8
     ensures { λ r. ⌜ r ≡ waits-in (now (waiter .entry)) (o .0) serves ⌝ }
 {
     let w = *waiter;
-    kernel_line::choose(serves, kernel_line::of_object(w, o), 0)
+    numbers::choose(serves, kernel_line::of_object(w, o), 0)
 }
 
 // 8 and 11, where t waits and the barrier is open: it goes to the tail of its base
@@ -252,11 +252,11 @@ pub fn enter(
         let q = now (waiter .entry) in
         ⌜ (r ≡ 0) × (now (ready .exit) ≡ cond (eqb b 1) l (popped l))
         × (now (held .exit) ≡ cond (eqb b 1) (set h (runner-in l) (o .0)) h)
-        × (now (way .exit) ≡ cond (eqb b 1) (set w (runner-in l) 2) w)
+        × (now (way .exit) ≡ cond (eqb b 1) (set w (runner-in l) for-entry) w)
         × (now (waiter .exit) ≡ cond (eqb b 1) q (set q (o .0) (runner-in l))) ⌝ }
 {
     if b == 1 {
-        hold(ready, held, way, o, 2)
+        hold(ready, held, way, o, rules::FOR_ENTRY)
     } else {
         queue(ready, waiter, o)
     }

@@ -1,4 +1,5 @@
--- What is tested of a whole line in its table: its free places stand at its end, its tasks in order, and where each task stands.
+-- What is tested of a whole line in its table: its free places stand at its end, its tasks in order, and where each
+-- task stands.
 use Prim.Native.Nat.{ℕ}
 use mathlib.Core.Bool.{Bool, true, cond, not, _&&_, _||_}
 use mathlib.Core.List.{List, [], _∷_}

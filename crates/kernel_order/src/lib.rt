@@ -6,8 +6,8 @@ ghost use lib.Dec.{leb};
 ghost use Rattle.kernel_line.specs.Tables.{zeros, no-task};
 ghost use Rattle.kernel_order.specs.Order.{ended, falls, rises, marks};
 use kernel_line::POId;
-use kernel_line::choose;
 use kernel_line::of_object;
+use numbers::choose;
 
 // ---- where a task stands
 
@@ -69,14 +69,14 @@ pub fn is_ended(line: &[u8; 32]) -> bool
     ends
 }
 
-// All places are free.
-pub fn is_free(line: &[u8; 32]) -> bool
-    ensures { λ r. ⌜ r ≡ zeros (now (line .entry)) ⌝ }
+// All places are free: of a table, or of any bytes. All of them are looked at, found or not: without a way out of the
+// loop LLVM looks at many at a time.
+pub fn is_free(cells: &[u8]) -> bool
+    ensures { λ r. ⌜ r ≡ zeros (now (cells .entry)) ⌝ }
 {
-    let cells: &[u8] = line;
     let mut free = true;
-    let mut i = 0;
-    while i < 32 {
+    let mut i: usize = 0;
+    while i < cells.len() {
         free = free & (cells[i] == 0);
         i += 1;
     }

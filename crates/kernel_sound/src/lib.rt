@@ -1,9 +1,9 @@
 // The test of a saved state: document 01's conditions, and that every unused cell is 0.
 ghost use mathlib.Core.Path.{_≡_};
 ghost use lib.ListN.{replicate};
-ghost use Rattle.kernel_line.specs.Tables.{zeros};
 ghost use Rattle.kernel_sound.specs.Test as test;
 use kernel_line::TaskID;
+use rules::FOR_ENTRY;
 
 // Where a task stands: nowhere is 0, in two places or twice in one is 9.
 const READY: u8 = 1;
@@ -19,7 +19,7 @@ fn task_fits(base: u8, place: u8, held: u8, way: u8) -> bool
 {
     let stands = (base == 0) & (place == 0) | !(base == 0) & !(place == 0);
     let hands = (held == 0) & (way == 0) | !(held == 0) & !(way == 0) & (place == READY);
-    (base <= 15) & (place <= WAITING) & (way <= 2) & stands & hands
+    (base <= 15) & (place <= WAITING) & (way <= FOR_ENTRY) & stands & hands
 }
 
 // No exit before the end: so the compiler tests sixteen tasks at a time.
@@ -110,18 +110,6 @@ fn objects_fit(base: &[u8; 32], ceiling: [u8; 8], waiter: [u8; 8]) -> bool
     fit
 }
 
-fn nobody_waits(waiter: [u8; 8]) -> bool
-    ensures { λ r. ⌜ r ≡ zeros waiter ⌝ }
-{
-    let mut free = true;
-    let mut i = 0;
-    while i < 8 {
-        free = free & (waiter[i] == 0);
-        i += 1;
-    }
-    free
-}
-
 // Before Start the clock is 0 and nothing is delayed, waiting or held.
 fn is_calm(started: bool, clock: u64, first: u8, waiter: [u8; 8], held: &[u8; 32]) -> bool
     ensures { λ r. ⌜ r ≡ test.isCalm started clock first waiter (now (held .entry)) ⌝ }
@@ -129,7 +117,7 @@ fn is_calm(started: bool, clock: u64, first: u8, waiter: [u8; 8], held: &[u8; 32
     if started {
         return true;
     }
-    (clock == 0) & (first == 0) & nobody_waits(waiter) & kernel_order::is_free(held)
+    (clock == 0) & (first == 0) & kernel_order::is_free(&waiter) & kernel_order::is_free(held)
 }
 
 // The whole test, table by table: the state itself goes into no call, and a table of 32 is lent.

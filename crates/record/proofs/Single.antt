@@ -14,7 +14,6 @@ use Rattle.record.proofs.number_bytes
 use Rattle.record.proofs.record_of
 use Rattle.record.proofs.bytes_of
 use Rattle.record.proofs.is_marked
-use Rattle.record.proofs.choose
 use Rattle.record.proofs.fault
 
 module _ {M : Type 1} (𝓤 : URA M) (H : Heap 𝓤) (A : Atoms 𝓤) (mem : Memory → SProp 𝓤) (run : Routine → Fun 𝓤) where
@@ -35,9 +34,6 @@ module _ {M : Type 1} (𝓤 : URA M) (H : Heap 𝓤) (A : Atoms 𝓤) (mem : Mem
 
   pub is-marked-single : OneAnswer 𝓤 is_marked.ended (is_marked.clauses 𝓤 H A mem run)
   is-marked-single κs a g r s d e = one 𝓤 _ _ _
-
-  pub choose-single : OneAnswer 𝓤 choose.ended (choose.clauses 𝓤 H A mem run)
-  choose-single κs a g r s d e = one 𝓤 _ _ _
 
   pub fault-single : OneAnswer 𝓤 fault.ended (fault.clauses 𝓤 H A mem run)
   fault-single κs a g r s d e = one 𝓤 _ _ _

@@ -3,12 +3,12 @@
 //
 // No public function has a `requires`. specs/ says what each answer is.
 ghost use mathlib.Core.Path.{_≡_};
-ghost use mathlib.Core.Bool.{cond};
-ghost use Prim.Native.Nat.{_<_};
 ghost use lib.ListN.{getD};
 ghost use Rattle.record.specs.Form.{le8, ofLe, bytesOf, recordOf, marked, headerFields, isSeed, commandFields};
 ghost use Rattle.record.specs.Form.{headerOf};
 ghost use Rattle.record.specs.Fault.{headerFault, commandFault, faultOf};
+use numbers::choose;
+use numbers::wide;
 
 // The length of a record.
 pub const RECORD_BYTES: usize = 16;
@@ -56,12 +56,6 @@ fn byte(p: &[u8], i: usize) -> u8
     ensures { λ r. ⌜ r ≡ getD (now (p .entry)) i 0 ⌝ }
 {
     if i < p.len() { p[i] } else { 0 }
-}
-
-fn wide(x: u8) -> u64
-    ensures { λ r. ⌜ (r ≡ x) × (r < 256) ⌝ }
-{
-    x as u64
 }
 
 // The number that 8 bytes hold, least first. (The image reads its numbers by it too.)
@@ -181,13 +175,6 @@ fn is_seed(v: u64) -> bool
     ensures { λ t. ⌜ t ≡ isSeed v ⌝ }
 {
     (1 <= v) & (v <= LAST_SEED)
-}
-
-// Of two numbers that are both at hand.
-pub fn choose(t: bool, x: u8, y: u8) -> u8
-    ensures { λ r. ⌜ r ≡ cond t x y ⌝ }
-{
-    if t { x } else { y }
 }
 
 fn header_fault(r: Record) -> u8
