@@ -1,15 +1,9 @@
 // Unsigned decimals without needless zeros, read from a word.
 ghost use mathlib.Core.Path.{_≡_};
-ghost use Prim.Native.Nat.{_<_};
 ghost use Rattle.decimal.specs.Decimal.{digit, shortest, number-of};
 ghost use Rattle.decimal_read.specs.Method.{digits-from};
 use decimal::Reading;
-
-fn wide(b: u8) -> u64
-    ensures { λ r. ⌜ (r ≡ b) × (r < 256) ⌝ }
-{
-    b as u64
-}
+use numbers::wide;
 
 fn is_digit(b: u8) -> bool
     ensures { λ r. ⌜ r ≡ digit b ⌝ }

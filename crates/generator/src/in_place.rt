@@ -44,7 +44,7 @@ pub fn code_of<'a>(
         clock,
         started,
     );
-    kernel_line::choose(!sound, 1, code)
+    numbers::choose(!sound, 1, code)
 }
 
 // The answer of a draw that is made: the command that its three draws choose, and the third as the seed.

@@ -29,9 +29,9 @@ pub fn refusal(started: bool, seed: u32, span: u32, weights: [u32; 8]) -> u8
     ensures { λ r. ⌜ r ≡ refused-by started seed (profile-of span weights) ⌝ }
 {
     let good = is_good(span, weights);
-    kernel_line::choose(
+    numbers::choose(
         seed == 0,
         17,
-        kernel_line::choose(!good, 18, kernel_line::choose(!started, 2, 0)),
+        numbers::choose(!good, 18, numbers::choose(!started, 2, 0)),
     )
 }

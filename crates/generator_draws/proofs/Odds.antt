@@ -1,10 +1,11 @@
 -- Even odds, as counts. Of the numbers below L each choice below n comes from equally many, L / n. Over the eight draws of a choice, all values against all,
--- each choice comes from equally many lists of values, but that a choice below r = 4294967295 mod n has r ^ 7 more: the lists whose first seven values are drawn
--- again and whose eighth is the one value not below L that gives this choice. (All lists of eight values are counted, as if draws did not depend on each
+-- each choice comes from equally many lists of values, but that a choice below r = 4294967295 mod n has r ^ 7 more: the lists whose first seven values are
+-- drawn again and whose eighth is the one value not below L that gives this choice. (All lists of eight values are counted, as if draws did not depend on each
 -- other. From a seed the first draw fixes the others, so a run of the generator meets only 4294967295 of these lists.) Assumes nothing.
 use Prim.Native.Nat.{ℕ, zero, suc, _+_, _-_, _*_, _/_, _%_, _≤_, _<_, _^_}
 use native.Mathlib.Omega.{arith}
-use native.Mathlib.Nat.{mod-lt, mod-eq-of-lt, mul-add, add-mul, mul-comm, mul-one, mul-assoc, mul-left-comm, pow-zero, pow-succ', div-add-mod, mul-add-mod-self-left}
+use native.Mathlib.Nat.{mod-lt, mod-eq-of-lt, mul-add, add-mul, mul-comm, mul-one, mul-assoc, mul-left-comm, pow-zero, pow-succ', div-add-mod}
+use native.Mathlib.Nat.{mul-add-mod-self-left}
 use mathlib.Core.Path.{_≡_, refl, sym, ap, _∙_}
 use mathlib.Core.Bool.{Bool, true, false, cond}
 use mathlib.Core.List.{_∷_}
@@ -181,8 +182,8 @@ uneven-by n c pos low =
     ap (λ (lim : ℕ). how-many-lists draw-values 8 (λ l. eqb (chosen-from lim n l) c)) (limit-whole n)
     ∙ all-values n c pos low draw-values (draw-values / n) (draw-values % n) (rounds n) (let z : draw-values % n < n = mod-lt 4294967295 pos in omega arith) 7
 
--- How little that is, for every n to 4294967295: r is below n, and at most 2147483647, which n = 2147483648 meets. So less than half of the values of a draw are
--- drawn again. For n up to 1000001, the largest of a menu, r ^ 7 is below 10 ^ 42, of about 1.2 * 10 ^ 77 lists.
+-- How little that is, for every n to 4294967295: r is below n, and at most 2147483647, which n = 2147483648 meets. So less than half of the values of a draw
+-- are drawn again. For n up to 1000001, the largest of a menu, r ^ 7 is below 10 ^ 42, of about 1.2 * 10 ^ 77 lists.
 pub few-left : (n : ℕ) → 1 ≤ n → n ≤ draw-values → (draw-values % n < n) × (draw-values % n ≤ 2147483647)
 few-left n pos h = (below, go (draw-values / n) (rounds n))
   where
@@ -193,7 +194,8 @@ few-left n pos h = (below, go (draw-values / n) (rounds n))
     go zero e = absurd (omega (arith, e, below, h))
     go (suc q) e = omega (arith, e, below, mul-add n 1 q)
 
--- What all choices have in common is the rest of the lists, in n equal shares: with the r ^ 8 lists whose eight values are all left over they are all that there are.
+-- What all choices have in common is the rest of the lists, in n equal shares: with the r ^ 8 lists whose eight values are all left over they are all that
+-- there are.
 power-one : (x : ℕ) → x ^ 1 ≡ x
 power-one x = pow-succ' x 0 ∙ (ap (λ (y : ℕ). x * y) (pow-zero x) ∙ mul-one x)
 

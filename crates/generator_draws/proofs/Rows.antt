@@ -1,8 +1,8 @@
 -- Edition 2 in numbers, computed: seeds whose choice draws again, found by a search through all of them, and commands drawn from the set-up of the walk.
 -- Assumes nothing.
 use mathlib.Core.Path.{_≡_, refl}
-use mathlib.Core.List.{[], _∷_, _++_}
-use Rattle.rules.specs.Machine.{Machine, fresh}
+use mathlib.Core.List.{[], _∷_}
+use Rattle.rules.specs.Machine.{fresh}
 use Rattle.rules.specs.Table.{carry, leave, release}
 use Rattle.rules.specs.Refusals.{refusal}
 use Rattle.rules.specs.Run.{next, run}
@@ -12,6 +12,7 @@ use Rattle.generator_draws.specs.Xorshift.{draw}
 use Rattle.generator_draws.specs.Below.{even}
 use Rattle.generator_draws.specs.Menu.{menu}
 use Rattle.generator_draws.specs.Draw.{Profile, made-by, draw-refusal, drawn-by, drawn-evenly}
+use Rattle.generator_draws.proofs.Theorems.{tens, entered, mostly-done}
 
 -- Below 7 L is 4294967292. The three draws that are not below it come from three seeds; the last of them is L itself.
 -- Rules out: "not below L" taken for "above L", and a count that leaves out a draw that was made again.
@@ -20,8 +21,8 @@ pub seven-again : (even 7 1584200935 ≡ record { number = 1; seed = 253983; spe
 unfolding even draw
 seven-again = (refl, refl, refl)
 
--- Below 100; below 2147483649, where nearly half of all draws are made again, seven times from that seed; and below 2863311530, where a third is: from the first
--- seed the eighth draw is below L, from the second it is not, and is taken all the same. Rules out: a ninth draw, and an eighth that is not made.
+-- Below 100; below 2147483649, where nearly half of all draws are made again, seven times from that seed; and below 2863311530, where a third is: from the
+-- first seed the eighth draw is below L, from the second it is not, and is taken all the same. Rules out: a ninth draw, and an eighth that is not made.
 pub again-and-again : (even 100 22372349 ≡ record { number = 48; seed = 22350349; spent = 2 })
     × (even 2147483649 8368 ≡ record { number = 1264041421; seed = 3411525071; spent = 8 })
     × (even 2863311530 12827 ≡ record { number = 529093277; seed = 529093278; spent = 8 })
@@ -31,20 +32,11 @@ again-and-again = (refl, refl, refl, refl)
 
 -- Commands. From seed 1 with ten for each kind, as document 01's drawn delay 39 of edition 1; with S of 7 and of 100, from seeds whose first choice draws
 -- again; and inside an entry, where done's barrier is the last choice.
-abbrev tens : Profile
-tens = record { span = 100; weights = 10 ∷ 10 ∷ 10 ∷ 10 ∷ 10 ∷ 10 ∷ 10 ∷ 10 ∷ [] }
-
 abbrev sum-7 : Profile
 sum-7 = record { span = 100; weights = 1 ∷ 2 ∷ 4 ∷ 0 ∷ 0 ∷ 0 ∷ 0 ∷ 0 ∷ [] }
 
 abbrev sum-100 : Profile
 sum-100 = record { span = 999; weights = 30 ∷ 20 ∷ 50 ∷ 0 ∷ 0 ∷ 0 ∷ 0 ∷ 0 ∷ [] }
-
-abbrev mostly-done : Profile
-mostly-done = record { span = 100; weights = 0 ∷ 1 ∷ 0 ∷ 0 ∷ 0 ∷ 0 ∷ 0 ∷ 100 ∷ [] }
-
-abbrev entered : Machine
-entered = run fresh (set-up ++ (cmd 4 0 0 10 ∷ cmd 10 1 1 0 ∷ []))
 
 pub drawn-rows : (drawn-evenly (run fresh set-up) 1 tens ≡ record { code = 0; command = cmd 4 0 0 38; seed = 2647435461; spent = 3 })
     × (drawn-evenly (run fresh set-up) 3137861301 sum-7 ≡ record { code = 0; command = cmd 6 0 0 37; seed = 1562591425; spent = 4 })

@@ -166,8 +166,8 @@ module _ (m : Machine) (p : Profile) (s : sound m ≡ true) (on : m .started ≡
         λ d2 d3. (ap (λ (o : Offer). command-by o d2 d3) found, ap (λ (o : Offer). command-by o d2 d3 .op) found ∙ op-at i _ _ h),
       )
 
-  -- Edition 2: the first draw is taken at once, since d1 - 1 is below L; the other choices are made from it, whatever they are. (That some seed has this first draw
-  -- is not said: it would be that a draw is onto.)
+  -- Edition 2: the first draw is taken at once, since d1 - 1 is below L; the other choices are made from it, whatever they are. (That some seed has this first
+  -- draw is not said: it would be that a draw is onto.)
   pub each-kind-drawn-evenly : (i : ℕ) → i < 8 → offer-at m p i .legal ≡ true → 1 ≤ at (p .weights) i
       → let l = weighed-menu m p in (d1 : ℕ) × (1 ≤ d1) × (d1 < 2 ^ 32) × (d1 - 1 < limit (total l)) × (choose ((d1 - 1) % total l) 0 l ≡ offer-at m p i)
       × ((seed : ℕ) → draw seed ≡ d1 → made-by even m seed p ≡ filled even (offer-at m p i) (record { number = (d1 - 1) % total l; seed = d1; spent = 1 }))
@@ -364,13 +364,13 @@ drawn-delay = refl
 -- where it is even (seed 9, whose first two are odd); and so where a task waits on the object.
 -- Rules out: a generator that never lets an entry's end serve the waiter, or always does; the bit of another draw; the entry's exception, 1 where a
 -- task waits, taken for done's. Leaves: how often (the weights).
-abbrev entered : Machine
+abbrev pub entered : Machine
 entered = run fresh (set-up ++ (cmd 4 0 0 10 ∷ cmd 10 1 1 0 ∷ []))
 
 abbrev entered-behind-a-waiter : Machine
 entered-behind-a-waiter = run fresh (set-up ++ (cmd 4 0 0 10 ∷ cmd 10 1 0 0 ∷ cmd 10 1 1 0 ∷ []))
 
-abbrev mostly-done : Profile
+abbrev pub mostly-done : Profile
 mostly-done = record { span = 100; weights = 0 ∷ 1 ∷ 0 ∷ 0 ∷ 0 ∷ 0 ∷ 0 ∷ 100 ∷ [] }
 
 pub drawn-done : (drawn entered 8 mostly-done ≡ record { code = 0; command = cmd 11 1 1 0; seed = 2791531049 })

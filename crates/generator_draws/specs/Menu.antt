@@ -6,7 +6,8 @@ use mathlib.Core.List.{List, [], _∷_}
 use lib.Dec.{eqb, leb, ltb}
 use lib.ListN.{getD, length}
 use Rattle.rules.specs.Line.{at, empty}
-use Rattle.rules.specs.Machine.{Machine, Command, declared, last-opened, way-held, empty-handed, holders, runner, for-open, for-entry}
+use Rattle.rules.specs.Machine.{Machine, Command, declared, last-opened, way-held, empty-handed, holders, runner}
+use Rattle.rules.specs.Machine.{for-open, for-entry}
 
 -- the object that the runner holds, 0 for none
 abbrev pub hand : Machine → ℕ

@@ -1,5 +1,6 @@
-// Marsaglia's xorshift, and the generator that is lent: a seed that is advanced where it stands, by one draw (`advance`),
-// by the three of a command of edition 1 (`three_draws`), or by as many as a choice of edition 2 spends (`choose`).
+// Marsaglia's xorshift, and the generator that is lent: a seed that is advanced where it stands, by one draw
+// (`advance`), by the three of a command of edition 1 (`three_draws`), or by as many as a choice of edition 2 spends
+// (`choose`).
 ghost use Prim.Native.Nat.{_-_, _%_};
 ghost use mathlib.Core.Path.{_≡_};
 ghost use Rattle.generator_draws.specs.Xorshift.{draw};

@@ -4,7 +4,8 @@ use generator_lent::choice_from;
 use generator_lent::choice_if_needed;
 use kernel_checks::Command;
 use kernel_line::POId;
-ghost use Prim.Native.Nat.{_+_, _%_, _≤_, _<_, _^_};
+use numbers::wider;
+ghost use Prim.Native.Nat.{_+_, _%_, _≤_, _^_};
 ghost use mathlib.Core.Path.{_≡_};
 ghost use mathlib.Core.Bool.{cond};
 ghost use lib.Dec.{ltb};
@@ -16,14 +17,6 @@ ghost use Rattle.generator_menu.specs.Public.{chosenOf, evenlyOf};
 ghost use Rattle.generator_menu.specs.Tables as tables;
 
 // ---- Numbers
-
-// As a 64-bit number, that sums of a few of these fit.
-fn wide(x: u32) -> u64
-    ensures same { λ r. ⌜ r ≡ x ⌝ }
-    ensures small { λ r. ⌜ r < 2 ^ 32 ⌝ }
-{
-    x as u64
-}
 
 // x mod n; by 0 it is x, as in specs/, so that nothing is asked of n.
 fn remainder(x: u64, n: u64) -> u64
@@ -101,10 +94,10 @@ struct Sight {
 fn has_room(clock: u64, span: u32) -> bool
     ensures { λ r. ⌜ r ≡ ltb (clock + span) (2 ^ 64) ⌝ }
 {
-    wide(span) <= u64::MAX - clock
+    wider(span) <= u64::MAX - clock
 }
 
-// A way of 1 is that of an open, 2 of an entry.
+// What the draw sees of the tables.
 fn look(
     base: &[u8; 32],
     ready: &[u8; 32],
@@ -124,8 +117,8 @@ fn look(
     let count = count_eligible(ceiling, held, level);
     Sight {
         free: !(runner.0 == 0) & (hand == 0),
-        opened: !(hand == 0) & (how == 1),
-        entered: !(hand == 0) & (how == 2),
+        opened: !(hand == 0) & (how == rules::FOR_OPEN),
+        entered: !(hand == 0) & (how == rules::FOR_ENTRY),
         hand,
         level,
         count,
@@ -164,7 +157,7 @@ fn sum(w: [u32; 8]) -> u64
     let mut s = 0u64;
     let mut i = 0;
     while i < 8 {
-        s += wide(w[i]);
+        s += wider(w[i]);
         i += 1;
     }
     s
@@ -178,7 +171,7 @@ fn kind_for(d: u64, w: [u32; 8]) -> u8
     let mut i = 0u8;
     while i < 8 {
         let j = i as usize;
-        let x = wide(w[j]);
+        let x = wider(w[j]);
         if left < x {
             return i;
         }
@@ -218,7 +211,7 @@ fn operand_below(i: u8, s: Sight, span: u32) -> u64
     ensures { λ r. ⌜ r ≡ tables.operandAt s span i ⌝ }
 {
     let count = s.count;
-    let ticks = wide(span);
+    let ticks = wider(span);
     let times = ticks + 1;
     let column = [times, 0, ticks, count, 0, 0, count, 0];
     long_cell(column, i)
@@ -229,7 +222,7 @@ fn object_for(i: u8, s: Sight, ceiling: [u8; 8], held: &[u8; 32], x: u32) -> u8
     ensures { λ r. ⌜ r ≡ tables.objectAt ceiling (now (held .entry)) s i x ⌝ }
 {
     if (i == 3) | (i == 6) {
-        nth_eligible(ceiling, held, s.level, wide(x))
+        nth_eligible(ceiling, held, s.level, wider(x))
     } else {
         let hand = s.hand;
         let column = [0, 0, 0, 0, hand, hand, 0, hand];
@@ -249,7 +242,7 @@ fn is_quiet(waiter: [u8; 8], o: u8) -> bool
 fn barrier_below(i: u8, quiet: bool) -> u64
     ensures { λ r. ⌜ r ≡ tables.barrierAt quiet i ⌝ }
 {
-    let entry = kernel_line::choose(quiet, 2, 0);
+    let entry = numbers::choose(quiet, 2, 0);
     let column = [0, 0, 0, 0, 2, 0, entry, 2];
     cell(column, i) as u64
 }
@@ -259,7 +252,7 @@ fn delay_time(clock: u64, x: u32) -> u64
     ensures { λ r. ⌜ r ≡ tables.delayTime clock x ⌝ }
 {
     if has_room(clock, x) {
-        clock + wide(x)
+        clock + wider(x)
     } else {
         0
     }
@@ -270,9 +263,9 @@ fn command_for(i: u8, clock: u64, object: u8, quiet: bool, x: u32, y: u32) -> Co
     ensures { λ r. ⌜ r ≡ tables.commandAt clock object quiet x y i ⌝ }
 {
     let barrier = (y % 256) as u8;
-    let at_entry = kernel_line::choose(quiet, barrier, 1);
+    let at_entry = numbers::choose(quiet, barrier, 1);
     let delay = delay_time(clock, x);
-    let advance = 1 + wide(x);
+    let advance = 1 + wider(x);
     let ops = [4, 5, 6, 7, 8, 9, 10, 11];
     let seconds = [0, 0, 0, 0, barrier, 0, at_entry, barrier];
     let values = [delay, 0, advance, 0, 0, 0, 0, 0];
@@ -307,7 +300,7 @@ pub fn pick_command(
 {
     let s = look(base, ready, held, way, ceiling, clock, span);
     let w = worths(s, weights);
-    let i = kind_for(remainder(wide(d1), sum(w)), w);
+    let i = kind_for(remainder(wider(d1), sum(w)), w);
     let x = needed(d2, operand_below(i, s, span));
     let object = object_for(i, s, ceiling, held, x);
     let quiet = is_quiet(waiter, object);
@@ -372,7 +365,7 @@ pub fn make_evenly(
     let s = look(base, ready, held, way, ceiling, clock, span);
     let w = worths(s, weights);
     let kind = choice_from(seed, sum(w));
-    let i = kind_for(wide(kind.number), w);
+    let i = kind_for(wider(kind.number), w);
     finish(
         i,
         s,

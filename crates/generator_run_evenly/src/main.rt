@@ -1,7 +1,7 @@
 // Edition 2: 100,000 draws with their steps, 25,000 from each of four seeds, three of them above 2^31, from eight tasks
-// and five objects. The span is wide, so that some draws are made again: eight of these 300,008, the very first of the third
-// run among them, where S is 90. Each line tells how far a run is, the running task, the clock, the seed and the draws spent, and
-// a number that changes with any command and any answer on the way.
+// and five objects. The span is wide, so that some draws are made again: eight of these 300,008, the very first of the
+// third run among them, where S is 90. Each line tells how far a run is, the running task, the clock, the seed and the
+// draws spent, and a number that changes with any command and any answer on the way.
 use generator::Profile;
 use generator_evenly::Carried;
 use kernel::Answer;

@@ -218,7 +218,8 @@ module _ (s : List ℕ) (seed : ℕ) (p : Profile) (h : formed s ≡ true) where
   answer-there e = rw (eq-eqb (drawn-there .code) 0 e) (rw h at (step-answered s (kernelOf s) (to-rules (drawn-there .command))))
 
 left-so : (s : List ℕ) (k : Kernel) (seed : ℕ) (p : Profile)
-    → let d = drawOn s seed p in imageLeft s (behindRead s k seed p) (drawnRead s seed p .answer) ≡ cond (eqb (d .code) 0) (stepImage s (to-rules (d .command))) s
+    → let d = drawOn s seed p in imageLeft s (behindRead s k seed p) (drawnRead s seed p .answer) ≡ cond (eqb (d .code) 0)
+    (stepImage s (to-rules (d .command))) s
 left-so s k seed p = go (formed s) refl
   where
     go : (b : Bool) → formed s ≡ b

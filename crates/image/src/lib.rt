@@ -1,9 +1,9 @@
 // The model for C hosts: a chip simulator lends 512 bytes, and steps the machine that they hold.
 //
-// Crate image_layout has the bytes, crate image_edge what comes in from C and goes out to it; image_calls/specs/Calls says
-// what each call answers and leaves. A call reads the image into tables on its stack and works there; an accepted one
-// lays them out in the image again. Bytes of every length, whatever they hold, get an answer: no exported function has
-// a `requires`.
+// Crate image_layout has the bytes, crate image_edge what comes in from C and goes out to it; image_calls/specs/Calls
+// says what each call answers and leaves. A call reads the image into tables on its stack and works there; an accepted
+// one lays them out in the image again. Bytes of every length, whatever they hold, get an answer: no exported function
+// has a `requires`.
 ghost use mathlib.Core.Path.{_≡_};
 ghost use Rattle.kernel.specs.Public.{to-rules};
 ghost use Rattle.kernel.specs.Step.{tables};

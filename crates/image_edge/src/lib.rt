@@ -4,7 +4,6 @@
 // image_calls/specs/Calls and specs/Edge say what each function answers and leaves. No public function has a
 // `requires`.
 ghost use mathlib.Core.Path.{_≡_};
-ghost use Prim.Native.Nat.{_<_};
 ghost use Rattle.kernel.specs.Public.{to-rules};
 ghost use Rattle.kernel.specs.Step.{tables};
 ghost use Rattle.image_calls.specs.Calls.{told, fitted, fittedTask, packed, packedLeft, fittedProfile, packedDrawn};
@@ -17,6 +16,8 @@ use kernel::Answer;
 use kernel::Command;
 use kernel::Left;
 use kernel::TaskID;
+use numbers::wide32;
+use numbers::wider;
 use record_kept::kept_of;
 
 // ---- What comes in
@@ -91,12 +92,6 @@ pub fn profile(span: u64, weights: &[u32]) -> Profile
 
 // ---- Answers in one number
 
-fn wide(x: u8) -> u32
-    ensures { λ r. ⌜ (r ≡ x) × (r < 256) ⌝ }
-{
-    x as u32
-}
-
 // An answer in one number: what a record keeps of it.
 fn pack(a: Answer) -> u32
     ensures { λ r. ⌜ r ≡ packed a ⌝ }
@@ -108,7 +103,7 @@ fn pack(a: Answer) -> u32
 pub fn pack_left(l: Left) -> u32
     ensures { λ r. ⌜ r ≡ packedLeft l ⌝ }
 {
-    wide(l.code) + 256 * wide(l.left)
+    wide32(l.code) + 256 * wide32(l.left)
 }
 
 // A draw: code + 256 * op + 65536 * a + 16777216 * b.
@@ -116,13 +111,7 @@ pub fn pack_drawn(d: Drawn) -> u32
     ensures { λ r. ⌜ r ≡ packedDrawn d ⌝ }
 {
     let c = d.command;
-    wide(d.code) + 256 * wide(c.op) + 65536 * wide(c.a) + 16777216 * wide(c.b)
-}
-
-fn wider(x: u32) -> u64
-    ensures { λ r. ⌜ (r ≡ x) × (r < 4294967296) ⌝ }
-{
-    x as u64
+    wide32(d.code) + 256 * wide32(c.op) + 65536 * wide32(c.a) + 16777216 * wide32(c.b)
 }
 
 // The answers of a draw and of its step in one number: the draw's + 4294967296 * the step's. Of a refused draw it is
@@ -154,7 +143,7 @@ pub fn bare(d: generator_evenly::Drawn) -> Drawn
 pub fn pack_even(d: generator_evenly::Drawn) -> u64
     ensures { λ r. ⌜ r ≡ packedEven d ⌝ }
 {
-    wider(pack_drawn(bare(d))) + 4294967296 * wider(wide(d.spent))
+    wider(pack_drawn(bare(d))) + 4294967296 * wider(wide32(d.spent))
 }
 
 // ---- What is left in what was lent

@@ -1,16 +1,12 @@
--- Laws of copying: bytes that are written one part behind another, and a test of each byte of a part. Each is of one turn, or of a loop's start or end, over
--- every width. (A table that is filled from its start: crate record, proofs/Filled.) Assumes nothing.
+-- Laws of copying: bytes that are written one part behind another. Each is of one turn, or of a loop's start or end, over every width. (A table that is
+-- filled from its start: crate record, proofs/Filled.) Assumes nothing.
 use mathlib.Core.Path.{_≡_, sym, ap, _∙_}
-use mathlib.Core.Bool.{Bool, _&&_, and-true, and-assoc}
 use mathlib.Core.List.{List, [], _∷_, _++_, append-assoc, append-nil}
-use Prim.Native.Nat.{ℕ, _+_, _≤_, _<_}
+use Prim.Native.Nat.{ℕ, _+_, _<_}
 use native.Mathlib.Nat.{add-assoc, add-zero, le-of-eq}
 use native.Mathlib.Numerals.{add-one}
-use native.Mathlib.Omega.{arith}
-use lib.Dec.{eqb}
-use lib.ListN.{length, take, drop, getD, set, length-drop, drop-of-length-le}
-use lib.Seq.{take-suc-set, take-suc, take-all, drop-cons, length-take-le, getD-take, getD-drop}
-use Rattle.kernel_line.specs.Tables.{zeros}
+use lib.ListN.{length, take, getD, set}
+use lib.Seq.{take-suc-set, take-suc, take-all}
 
 -- Bytes s that are written from a place on, v behind what stands before it.
 pub start : (s v : List ℕ) (at : ℕ) → take (at + 0) s ≡ take at s ++ take 0 v
@@ -32,13 +28,3 @@ end t p v at i n a l e =
 -- one part more behind all that stands before it
 pub behind : (r q p v : List ℕ) → r ≡ q ++ v → q ≡ p → r ≡ p ++ v
 behind r q p v f e = f ∙ ap (λ (l : List ℕ). l ++ v) e
-
--- A part t each of whose bytes is looked at.
-pub looked : (t : List ℕ) (b : Bool) (i x : ℕ) → i < length t → x ≡ getD t i 0 → zeros t ≡ b && zeros (drop i t) → zeros t
-    ≡ (b && eqb x 0) && zeros (drop (i + 1) t)
-looked t b i x h ex e =
-    rw (add-one, ex)
-    (e ∙ ap (λ (l : List ℕ). b && zeros l) (drop-cons t i 0 h) ∙ sym (and-assoc b (eqb (getD t i 0) 0) _))
-
-pub all-looked : (t : List ℕ) (b : Bool) (i : ℕ) → length t ≤ i → zeros t ≡ b && zeros (drop i t) → b ≡ zeros t
-all-looked t b i h e = sym (e ∙ ap (λ (l : List ℕ). b && zeros l) (drop-of-length-le t h) ∙ and-true b)

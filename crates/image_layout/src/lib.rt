@@ -6,11 +6,11 @@ ghost use mathlib.Core.List.{_++_};
 ghost use Prim.Native.Nat.{_+_, _≤_, _<_};
 ghost use lib.ListN.{length, take, drop};
 ghost use Rattle.rules.specs.Line.{one-if};
-ghost use Rattle.kernel_line.specs.Tables.{zeros};
 ghost use Rattle.record.specs.Form.{le8, ofLe};
 ghost use Rattle.kernel.specs.Step.{tables};
 ghost use Rattle.image_form.specs.Layout.{imageBytes, bytesOf, numbersOf, flags, spare, part, clean, formed, readOf};
 ghost use Rattle.image_form.specs.Layout.{laid};
+use kernel_order::is_free;
 use record_bytes::number_bytes;
 use record_bytes::number_of;
 
@@ -19,25 +19,11 @@ pub const IMAGE_BYTES: usize = 512;
 
 // ---- The bytes that the state does not use
 
-// All of them are looked at, found or not: without a way out of the loop LLVM looks at many at a time.
-fn is_zero(s: &[u8], at: usize, n: usize) -> bool
-    requires { ⌜ at + n ≤ length (now s) ⌝ }
-    ensures { λ r. ⌜ r ≡ zeros (part n at (now (s .entry))) ⌝ }
-{
-    let mut zero = true;
-    let mut i: usize = 0;
-    while i < n {
-        zero = zero & (s[at + i] == 0);
-        i += 1;
-    }
-    zero
-}
-
 fn is_clean(s: &[u8]) -> bool
     requires { ⌜ length (now s) ≡ imageBytes ⌝ }
     ensures { λ r. ⌜ r ≡ clean (now (s .entry)) ⌝ }
 {
-    (s[8] <= 1) & is_zero(s, 9, 7) & is_zero(s, 192, 32) & is_zero(s, 224, 32)
+    (s[8] <= 1) & is_free(&s[9..16]) & is_free(&s[192..224]) & is_free(&s[224..256])
 }
 
 // ---- Reading: each part by itself, into an array of its own, which LLVM knows to lie apart: so it makes a memory

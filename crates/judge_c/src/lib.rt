@@ -4,24 +4,18 @@
 // length, whatever it holds, gets an answer, and so does every count of numbers: the exported function has no
 // `requires`.
 ghost use mathlib.Core.Path.{_≡_};
-ghost use Prim.Native.Nat.{_<_};
 ghost use Rattle.record_kept.specs.Kept.{packed};
 ghost use Rattle.judge_c.specs.Call as call;
 use judging::Judgement;
 use judging::Verdict;
 use judging::judged;
+use numbers::wide32;
 use record_kept::Kept;
 
 // What C is told of a judgement: the answer of the call, and the numbers that it writes.
 struct Reply {
     code: u32,
     numbers: [u64; 4],
-}
-
-fn wide(x: u8) -> u32
-    ensures { λ r. ⌜ (r ≡ x) × (r < 256) ⌝ }
-{
-    x as u32
 }
 
 // What is kept of an answer in one number, as rvn_step packs it.
@@ -46,7 +40,7 @@ fn reply_to(j: Judgement) -> Reply
             numbers: [seed, d.number as u64, pack(d.tape), pack(d.rules)],
         },
         Verdict::Refused(e) => Reply {
-            code: wide(e.code),
+            code: wide32(e.code),
             numbers: [seed, e.number as u64, 0, 0],
         },
     }

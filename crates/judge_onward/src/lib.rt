@@ -11,7 +11,7 @@ use judge_record::headed;
 use judge_record::refused;
 use kernel::Kernel;
 use kernel::in_place::step_trusting;
-use record::choose;
+use numbers::choose;
 use record::fault;
 use record_bytes::is_marked;
 use record_bytes::record_of;

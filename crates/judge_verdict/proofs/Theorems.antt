@@ -108,13 +108,16 @@ headed-verdict s edition seed rest e h k =
 
 module _ (s : List ℕ) (seed : ℕ) (rs : List Record) (rest : List ℕ) (b : Begins s seed rs rest) where
   long : length s ≡ 16 * suc (length rs) + length rest
-  long = ap (λ (x : List ℕ). length x) (b .bytes) ∙ length-append (tapeOf (headerOf (b .edition) seed ∷ rs)) rest ∙ omega (arith, tape-long (headerOf (b .edition) seed ∷ rs))
+  long = ap (λ (x : List ℕ). length x) (b .bytes) ∙ length-append (tapeOf (headerOf (b .edition) seed ∷ rs)) rest ∙ omega
+      (arith, tape-long (headerOf (b .edition) seed ∷ rs))
 
   passed : verdict-of s ≡ judged-from (behind rs) (suc (length rs)) seed (T.answers (length s - length rs) s (16 * suc (length rs)))
   passed =
-      let e : s ≡ bytesOf (headerOf (b .edition) seed) ++ (tapeOf rs ++ rest) = b .bytes ∙ append-assoc (bytesOf (headerOf (b .edition) seed)) (tapeOf rs) rest in
+      let e : s ≡ bytesOf (headerOf (b .edition) seed) ++ (tapeOf rs ++ rest) = b .bytes ∙ append-assoc (bytesOf (headerOf (b .edition) seed))
+      (tapeOf rs) rest in
       headed-verdict s (b .edition) seed (tapeOf rs ++ rest) e (b .known) (b .seeded)
-      ∙ (past s rs fresh 1 (suc (length rs)) seed (length s) (length s - length rs) (bytesOf (headerOf (b .edition) seed)) rest e (sixteen-long (headerOf (b .edition) seed))
+      ∙ (past s rs fresh 1 (suc (length rs)) seed (length s) (length s - length rs) (bytesOf (headerOf (b .edition) seed)) rest e
+      (sixteen-long (headerOf (b .edition) seed))
       (omega arith) (omega arith) (omega (arith, long)) (b .commands) (b .agree))
 
   -- the next answer of the reader
@@ -146,7 +149,8 @@ differs-judged s seed d a =
     then s seed rs (bytesOf r ++ a .rest) (a .begins) (Found r (16 * suc (length rs) + 16)) e ∙ rw (n, ne-eqb (suc (length rs)) 0 (λ z. omega arith), a .told)
 
 -- a header whose value is no seed
-module _ (s : List ℕ) (edition value : ℕ) (rest : List ℕ) (known : isEdition edition ≡ true) (e : s ≡ bytesOf (headerOf edition value) ++ rest) (small : value < 18446744073709551616) where
+module _ (s : List ℕ) (edition value : ℕ) (rest : List ℕ) (known : isEdition edition ≡ true) (e : s ≡ bytesOf (headerOf edition value) ++ rest)
+    (small : value < 18446744073709551616) where
   at-first : take 16 s ≡ bytesOf (headerOf edition value)
   at-first = ap (λ (l : List ℕ). take 16 l) e ∙ take-at (bytesOf (headerOf edition value)) rest 16 (sixteen-long (headerOf edition value))
 
@@ -253,7 +257,8 @@ module _ (s : List ℕ) (small : (i : ℕ) → getD s i 0 < 256) where
             known = b .known;
             seeded = b .seeded;
             commands = all-more CommandRecord rs r (b .commands) is-command;
-            bytes = b .bytes ∙ ap (λ (x : List ℕ). tapeOf (headerOf (b .edition) seed ∷ rs) ++ x) split ∙ sym (tape-more (headerOf (b .edition) seed ∷ rs) r (drop 16 rest));
+            bytes = b .bytes ∙ ap (λ (x : List ℕ). tapeOf (headerOf (b .edition) seed ∷ rs) ++ x) split ∙ sym
+                (tape-more (headerOf (b .edition) seed ∷ rs) r (drop 16 rest));
             agree =
                 map-more kept-on rs r ∙ rw (b .agree, a)
                 (sym (ap (λ (cs : List Command). map kept (answers fresh cs)) (map-more command-of rs r)
@@ -288,8 +293,15 @@ module _ (s : List ℕ) (small : (i : ℕ) → getD s i 0 < 256) where
         let z : rest ≡ [] = sym left ∙ drop-of-length-le s {i = 16 * suc (length rs)} (omega arith) in
         record {
           records = rs;
-          begins = record
-              { edition = b .edition; known = b .known; seeded = b .seeded; commands = b .commands; bytes = b .bytes ∙ ap (λ (x : List ℕ). tapeOf (headerOf (b .edition) seed ∷ rs) ++ x) z; agree = b .agree };
+          begins = record {
+            edition = b .edition;
+            known = b .known;
+            seeded = b .seeded;
+            commands = b .commands;
+            bytes = b .bytes ∙ ap
+                (λ (x : List ℕ). tapeOf (headerOf (b .edition) seed ∷ rs) ++ x) z;
+            agree = b .agree;
+          };
           count =
               refl;
         }
@@ -498,7 +510,8 @@ pub seed-only-shown : (edition edition′ seed seed′ : ℕ) (rest : List ℕ) 
     → isSeed seed ≡ true → isSeed seed′ ≡ true
     → verdict-of (bytesOf (headerOf edition seed) ++ rest) ≡ record { seed = seed; verdict = verdict-of (bytesOf (headerOf edition′ seed′) ++ rest) .verdict }
 seed-only-shown edition edition′ seed seed′ rest known known′ g g′ =
-    go (bytesOf (headerOf edition seed)) (bytesOf (headerOf edition′ seed′)) refl refl (sixteen-long (headerOf edition seed)) (sixteen-long (headerOf edition′ seed′))
+    go (bytesOf (headerOf edition seed)) (bytesOf (headerOf edition′ seed′)) refl refl (sixteen-long (headerOf edition seed))
+    (sixteen-long (headerOf edition′ seed′))
   where
     go : (h k : List ℕ) → h ≡ bytesOf (headerOf edition seed) → k ≡ bytesOf (headerOf edition′ seed′) → length h ≡ 16 → length k ≡ 16
         → verdict-of (h ++ rest) ≡ record { seed = seed; verdict = verdict-of (k ++ rest) .verdict }

@@ -28,8 +28,8 @@ CommandRecord r = (commandFields r ≡ true) × (r .value < 18446744073709551616
 abbrev pub behind : List Record → Machine
 behind rs = run fresh (map command-of rs)
 
--- A tape begins with the header of an edition and a seed and some command records, which keep what records keep of the rules' answers along the run of their commands from
--- the fresh machine.
+-- A tape begins with the header of an edition and a seed and some command records, which keep what records keep of the rules' answers along the run of their
+-- commands from the fresh machine.
 pub record Begins (s : List ℕ) (seed : ℕ) (rs : List Record) (rest : List ℕ) : Type 0 where
   pub edition : ℕ
   pub known : isEdition edition ≡ true
@@ -59,7 +59,8 @@ pub record FirstDiffers (s : List ℕ) (seed : ℕ) (d : Difference) : Type 0 wh
 -- command record (15).
 pub data FirstRefused (s : List ℕ) : ℕ → Refusal → Type 0 where
   no-header : readOf s 0 ≡ Refused 15 → FirstRefused s 0 (record { code = 15; number = 0; place = 0 })
-  bad-seed : (edition value : ℕ) (rest : List ℕ) → isEdition edition ≡ true → s ≡ bytesOf (headerOf edition value) ++ rest → value < 18446744073709551616 → isSeed value ≡ false
+  bad-seed : (edition value : ℕ) (rest : List ℕ) → isEdition edition ≡ true → s ≡ bytesOf (headerOf edition value) ++ rest → value < 18446744073709551616
+      → isSeed value ≡ false
       → FirstRefused s value (record { code = 17; number = 0; place = 0 })
   no-command : (seed : ℕ) (records : List Record) (rest : List ℕ) → Begins s seed records rest → readOf s (16 * suc (length records)) ≡ Refused 15
       → FirstRefused s seed (record { code = 15; number = suc (length records); place = 16 * suc (length records) })

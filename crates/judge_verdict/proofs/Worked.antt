@@ -7,7 +7,7 @@ use Rattle.rules.specs.Line.{all-below}
 use Rattle.rules.specs.Table.{carry, leave, release}
 use Rattle.rules.specs.Refusals.{refusal}
 use Rattle.rules.specs.Run as rules
-use Rattle.kernel_checks.specs.declared.Command.{Command}
+use Rattle.kernel_checks.specs.Shown.{cmd}
 use Rattle.record.specs.Form.{recordOf}
 use Rattle.record_kept.specs.declared.Kept.{Kept}
 use Rattle.tape.specs.Read.{readOf, judged, endOf, nextAt}
@@ -43,9 +43,6 @@ says seed v = record { seed = seed; verdict = v }
 
 abbrev refused : ℕ → ℕ → ℕ → Verdict
 refused code number place = Malformed (record { code = code; number = number; place = place })
-
-abbrev cmd : ℕ → ℕ → ℕ → ℕ → Command
-cmd op a b value = record { op = op; a = a; b = b; value = value }
 
 abbrev keeps : ℕ → ℕ → ℕ → Kept
 keeps code running released = record { code = code; running = record { 0 = running }; released = record { 0 = released } }

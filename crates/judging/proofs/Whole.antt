@@ -15,6 +15,7 @@ use Rattle.rules.specs.Machine.{Machine, Command, fresh}
 use Rattle.rules.specs.Run.{next, answer}
 use Rattle.rules.proofs.Sounds.{Sound}
 use Rattle.rules.proofs.Step.{next-sound, fresh-sound}
+use Rattle.rules.specs.Line.{joined}
 use Rattle.kernel.specs.declared.Kernel.{Kernel}
 use Rattle.kernel.specs.View.{encode, pad}
 use Rattle.kernel.proofs.Whole.{stepped-tie}
@@ -37,7 +38,6 @@ use Rattle.record_kept.specs.Kept.{kept, kept-on, alike}
 use Rattle.judge_verdict.specs.Verdict.{command-of, difference, seed-shown, judged-from, verdict-of}
 use Rattle.judge_record.specs.Behind.{to-come, beyond, refused-at, refused, headed, compared}
 use Rattle.judging.specs.Pieces.{Pending, byte, bytes, pending-of, judge-of, at-first, fed, ended, judged-in}
-use Rattle.judging.specs.Pieces.{joined}
 use Rattle.judging.proofs.Bytewise.{bytes-append, bytes-short, bytes-begun, few-begun, take-pad}
 use Rattle.judge_onward.proofs.Exits.{onward-over}
 use Rattle.judge_onward.specs.Onward.{run-of, head-of, answered, taken, onward}

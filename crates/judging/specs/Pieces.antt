@@ -64,8 +64,3 @@ ended j = record { seed = j .run .seed; verdict = at-end (j .run .stage) (j .run
 unfoldable pub judged-in : Judge → List (List ℕ) → Judgement
 judged-in j [] = ended j
 judged-in j (p ∷ ps) = judged-in (fed j p) ps
-
--- the tape that pieces are of
-abbrev pub joined : List (List ℕ) → List ℕ
-joined [] = []
-joined (p ∷ ps) = p ++ joined ps

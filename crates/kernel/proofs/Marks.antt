@@ -47,41 +47,53 @@ line-marks mark [] seen k h = (h, λ t. refl)
 line-marks mark (x ∷ l) seen k h = go (eqb x 0) refl k (line-marks mark l (set seen x (met mark (at seen x))))
   where
     go : (b : Bool) → eqb x 0 ≡ b → All (λ x. x < 32) (cond b [] (x ∷ live l))
-        → (All (λ x. x < 32) (live l) → length (set seen x (met mark (at seen x))) ≡ 32 → (length (marks no-task mark l (set seen x (met mark (at seen x)))) ≡ 32) × ((t : ℕ) → at (marks no-task mark l (set seen x (met mark (at seen x)))) t ≡ tally mark (at (set seen x (met mark (at seen x))) t) (count t (live l))))
-        → (length (cond (b || leb 32 x) seen (marks no-task mark l (set seen x (cond b 0 (met mark (at seen x)))))) ≡ 32) × ((t : ℕ) → at (cond (b || leb 32 x) seen (marks no-task mark l (set seen x (cond b 0 (met mark (at seen x)))))) t ≡ tally mark (at seen t) (count t (cond b [] (x ∷ live l))))
+        → (All (λ x. x < 32) (live l) → length (set seen x (met mark (at seen x))) ≡ 32
+        → (length (marks no-task mark l (set seen x (met mark (at seen x)))) ≡ 32)
+        × ((t : ℕ) → at (marks no-task mark l (set seen x (met mark (at seen x)))) t ≡ tally mark (at (set seen x (met mark (at seen x))) t)
+        (count t (live l))))
+        → (length (cond (b || leb 32 x) seen (marks no-task mark l (set seen x (cond b 0 (met mark (at seen x)))))) ≡ 32)
+        × ((t : ℕ) → at (cond (b || leb 32 x) seen (marks no-task mark l (set seen x (cond b 0 (met mark (at seen x)))))) t ≡ tally mark (at seen t)
+        (count t (cond b [] (x ∷ live l))))
     go true e k ih = (h, λ t. refl)
     go false e k ih =
         let w = ih (k .1) (length-set seen x (met mark (at seen x)) ∙ h) in
         rw (lt-leb 32 x (k .0)) (
           w .0,
-          λ t. w .1 t ∙ (ap (λ (v : ℕ). tally mark v (count t (live l))) (store-at mark x seen (let z = k .0 in omega arith) t) ∙ sym (tally-one mark (at seen t) (count t (live l)) (eqb t x))),
+          λ t. w .1 t ∙ (ap (λ (v : ℕ). tally mark v (count t (live l))) (store-at mark x seen (let z = k .0 in omega arith) t) ∙ sym
+              (tally-one mark (at seen t) (count t (live l)) (eqb t x))),
         )
 
 -- those who wait, of all objects: 0 is nobody
 pub waiter-marks : (mark : ℕ) (l seen : List ℕ) → All (λ x. x < 32) l → length seen ≡ 32 → at seen 0 ≡ 0
-    → (length (marks (leb 32) mark l seen) ≡ 32) × (at (marks (leb 32) mark l seen) 0 ≡ 0) × ((t : ℕ) → t ≢ 0 → at (marks (leb 32) mark l seen) t ≡ tally mark (at seen t) (count t l))
+    → (length (marks (leb 32) mark l seen) ≡ 32) × (at (marks (leb 32) mark l seen) 0 ≡ 0)
+    × ((t : ℕ) → t ≢ 0 → at (marks (leb 32) mark l seen) t ≡ tally mark (at seen t) (count t l))
 unfolding marks tally
 waiter-marks mark [] seen k h z = (h, z, λ t n. refl)
 waiter-marks mark (x ∷ l) seen k h z = rw (lt-leb 32 x (k .0)) (go (eqb x 0) refl (λ v. waiter-marks mark l (set seen x v) (k .1) (length-set seen x v ∙ h)))
   where
     go : (b : Bool) → eqb x 0 ≡ b
-        → ((v : ℕ) → at (set seen x v) 0 ≡ 0 → (length (marks (leb 32) mark l (set seen x v)) ≡ 32) × (at (marks (leb 32) mark l (set seen x v)) 0 ≡ 0) × ((t : ℕ) → t ≢ 0 → at (marks (leb 32) mark l (set seen x v)) t ≡ tally mark (at (set seen x v) t) (count t l)))
-        → (length (marks (leb 32) mark l (set seen x (cond b 0 (met mark (at seen x))))) ≡ 32) × (at (marks (leb 32) mark l (set seen x (cond b 0 (met mark (at seen x))))) 0 ≡ 0)
-        × ((t : ℕ) → t ≢ 0 → at (marks (leb 32) mark l (set seen x (cond b 0 (met mark (at seen x))))) t ≡ tally mark (at seen t) (one-if (eqb t x) + count t l))
+        → ((v : ℕ) → at (set seen x v) 0 ≡ 0 → (length (marks (leb 32) mark l (set seen x v)) ≡ 32) × (at (marks (leb 32) mark l (set seen x v)) 0 ≡ 0)
+        × ((t : ℕ) → t ≢ 0 → at (marks (leb 32) mark l (set seen x v)) t ≡ tally mark (at (set seen x v) t) (count t l)))
+        → (length (marks (leb 32) mark l (set seen x (cond b 0 (met mark (at seen x))))) ≡ 32)
+        × (at (marks (leb 32) mark l (set seen x (cond b 0 (met mark (at seen x))))) 0 ≡ 0)
+        × ((t : ℕ) → t ≢ 0 → at (marks (leb 32) mark l (set seen x (cond b 0 (met mark (at seen x))))) t ≡ tally mark (at seen t)
+        (one-if (eqb t x) + count t l))
     go true e ih =
         let q : x ≡ 0 = eqb-true x 0 e in
         let zero-there : at (set seen x 0) 0 ≡ 0 = rw q (getD-set-same seen 0 0 0 (omega arith)) in
         let w = ih 0 zero-there in (
           w .0,
           w .1,
-          λ t n. w .2 t n ∙ (ap (λ (v : ℕ). tally mark v (count t l)) (getD-set-other seen x t 0 0 (λ y. n (y ∙ q))) ∙ (let u : one-if (eqb t x) + count t l ≡ count t l = rw (ne-eqb t x (λ y. n (y ∙ q))) (omega arith) in sym (ap (tally mark (at seen t)) u))),
+          λ t n. w .2 t n ∙ (ap (λ (v : ℕ). tally mark v (count t l)) (getD-set-other seen x t 0 0 (λ y. n (y ∙ q)))
+              ∙ (let u : one-if (eqb t x) + count t l ≡ count t l = rw (ne-eqb t x (λ y. n (y ∙ q))) (omega arith) in sym (ap (tally mark (at seen t)) u))),
         )
     go false e ih =
         let n0 : x ≢ 0 = eqb-false x 0 e in
         let w = ih (met mark (at seen x)) (getD-set-other seen x 0 (met mark (at seen x)) 0 (λ y. n0 (sym y)) ∙ z) in (
           w .0,
           w .1,
-          λ t n. w .2 t n ∙ (ap (λ (v : ℕ). tally mark v (count t l)) (store-at mark x seen (let y = k .0 in omega arith) t) ∙ sym (tally-one mark (at seen t) (count t l) (eqb t x))),
+          λ t n. w .2 t n ∙ (ap (λ (v : ℕ). tally mark v (count t l)) (store-at mark x seen (let y = k .0 in omega arith) t) ∙ sym
+              (tally-one mark (at seen t) (count t l) (eqb t x))),
         )
 
 -- Where a task stands, by its mark after the three walks: a times in the ready line, b times in the delay line, c times waiting.
@@ -135,7 +147,11 @@ module _ (R : ℕ → ℕ → Type 0) (on : (a b c : ℕ) → R a b → R b c �
   ord-pairs last [] o = (tt, tt)
   ord-pairs last (x ∷ l) o =
       let w = ord-pairs (key x) l (o .1) in (
-        (o .0, all-map {P = λ y. (y < 32) × R (key x) (key y)} {Q = λ y. (y < 32) × R last (key y)} (λ y k. (k .0, on last (key x) (key y) (o .0 .1) (k .1))) l (w .0)),
+        (
+          o .0,
+          all-map {P = λ y. (y < 32) × R (key x) (key y)} {Q = λ y. (y < 32) × R last (key y)} (λ y k. (k .0, on last (key x) (key y) (o .0 .1) (k .1))) l
+              (w .0),
+        ),
         (all-map {P = λ y. (y < 32) × R (key x) (key y)} (λ y k. k .1) l (w .0), w .1),
       )
 
@@ -175,7 +191,8 @@ module _ (ceiling : List ℕ) where
   hold-sure (b ∷ base) (x ∷ held) taken e h u q = go (eqb x 0) refl q (λ v. hold-sure base held v (omega arith))
     where
       go : (z : Bool) → eqb x 0 ≡ z
-          → cond z (holdersFit ceiling taken base held) (not (leb 8 x) && (eqb (at taken x) 0 && admits (at ceiling x) b) && holdersFit ceiling (set taken x 1) base held) ≡ true
+          → cond z (holdersFit ceiling taken base held)
+          (not (leb 8 x) && (eqb (at taken x) 0 && admits (at ceiling x) b) && holdersFit ceiling (set taken x 1) base held) ≡ true
           → ((v : List ℕ) → length v ≡ 8 → ((o : ℕ) → at v o ≤ 1) → holdersFit ceiling v base held ≡ true → Held ceiling v base held)
           → Held ceiling taken (b ∷ base) (x ∷ held)
       go true f q ih =
@@ -213,7 +230,8 @@ module _ (ceiling : List ℕ) where
   hold-found (b ∷ base) (x ∷ held) taken e h u w = go (eqb x 0) refl (λ v. hold-found base held v (omega arith))
     where
       go : (z : Bool) → eqb x 0 ≡ z → ((v : List ℕ) → length v ≡ 8 → ((o : ℕ) → at v o ≤ 1) → Held ceiling v base held → holdersFit ceiling v base held ≡ true)
-          → cond z (holdersFit ceiling taken base held) (not (leb 8 x) && (eqb (at taken x) 0 && admits (at ceiling x) b) && holdersFit ceiling (set taken x 1) base held) ≡ true
+          → cond z (holdersFit ceiling taken base held)
+          (not (leb 8 x) && (eqb (at taken x) 0 && admits (at ceiling x) b) && holdersFit ceiling (set taken x 1) base held) ≡ true
       go true f ih = ih taken h u (record { each = λ t n l. w .each (suc t) n (omega arith); single = λ o n l. omega (arith, w .single o n l) })
       go false f ih =
           let n : x ≢ 0 = eqb-false x 0 f in

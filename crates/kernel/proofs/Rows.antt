@@ -118,7 +118,8 @@ module _ (m : Machine) (s : Sound m) where
       new = T.with-set-up m (set (m .base) t p) (m .ceiling) (m .started)
 
       zero-act : active new 0 ≡ 0
-      zero-act = act-free new 0 (s .idle-ready .idle-free) ∙ (getD-set-other (m .base) t 0 p 0 (λ e. let z = g .task .0 in omega arith) ∙ s .idle-ready .idle-base)
+      zero-act = act-free new 0 (s .idle-ready .idle-free)
+          ∙ (getD-set-other (m .base) t 0 p 0 (λ e. let z = g .task .0 in omega arith) ∙ s .idle-ready .idle-base)
 
   pub declare-tie : (o p : ℕ) → declaredOf (encode m) o p ≡ answered (encode (carry m (declares o p))) 0
   unfolding declaredOf carry encode

@@ -116,6 +116,10 @@ module _ (m : Machine) (s : Sound m) (on : m .started ≡ true) where
       go false = rw (release-none m, later-zero (leave close m)) (close-tie m s 0)
 
 -- Every accepted op.
+pub clock-tie : (m : Machine) → encode m .clock ≡ m .clock
+unfolding encode
+clock-tie m = refl
+
 module _ (m : Machine) (s : Sound m) where
   still : (out : Out) (t : ℕ) → answered (encode (leave out m)) t ≡ answered (encode (carry m (moves out none 0))) t
   unfolding carry
@@ -123,10 +127,6 @@ module _ (m : Machine) (s : Sound m) where
 
   leaves : (out : Out) → AllowedOut (release none m) out → AllowedOut m out
   leaves out g = subst (λ (n : Machine). AllowedOut n out) (release-none m) g
-
-  clock-tie : encode m .clock ≡ m .clock
-  unfolding encode
-  clock-tie = refl
 
   advance-row : (n : ℕ) → answered (encode (T.later m n)) 0 ≡ answered (encode (carry m (moves same none n))) 0
   unfolding carry leave release
@@ -155,7 +155,7 @@ module _ (m : Machine) (s : Sound m) where
   by-kind c Declaring g = declare-tie m s (c .a) (c .b)
   by-kind c Starting g = begin-tie m s
   by-kind c Delaying g =
-      ap (λ (n : ℕ). cond (ltb n (c .value)) (sleptOf (encode m) (c .value)) (yieldedOf (encode m))) clock-tie
+      ap (λ (n : ℕ). cond (ltb n (c .value)) (sleptOf (encode m) (c .value)) (yieldedOf (encode m))) (clock-tie m)
       ∙ delay-row (c .value) (ltb (m .clock) (c .value))
       (leaves (cond (ltb (m .clock) (c .value)) (sleep (c .value)) yield) (g .leaves))
   by-kind c Waking g = wake-tie m s (g .on)

@@ -72,7 +72,7 @@ fn carry(
         ),
         Kind::Waking => kernel_time::wake(base, ready, delayed, held, until, tops, *clock),
         Kind::Advancing => kernel_time::advance(clock, c.value),
-        Kind::Opening => kernel_ops::hold(ready, held, way, POId(c.a), 1),
+        Kind::Opening => kernel_ops::hold(ready, held, way, POId(c.a), rules::FOR_OPEN),
         Kind::Entering => kernel_ops::enter(ready, held, way, waiter, POId(c.a), c.b),
         Kind::Ending(e) => {
             let serves = e.serves & (c.b == 1);

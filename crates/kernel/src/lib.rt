@@ -169,7 +169,7 @@ impl Kernel {
 fn due_count(ahead: u8, time: u64, clock: u64) -> u8
     ensures { λ r. ⌜ r ≡ step.dueCount ahead time clock ⌝ }
 {
-    kernel_line::choose(
+    numbers::choose(
         (ahead < 32) & (time <= clock),
         kernel_line::one_more(ahead),
         0,

@@ -29,7 +29,8 @@ fn lesser(x: usize, y: usize) -> usize
 // clock.
 #[no_mangle]
 pub extern "C" fn bench_run(ops: &[u8], a: &[u8], b: &[u8], values: &[u64], sum: u64) -> u64
-    ensures { λ r. ⌜ r ≡ stream.gathered (now (ops .entry)) (now (a .entry)) (now (b .entry)) (now (values .entry)) sum ⌝ }
+    ensures { λ r. ⌜ r ≡ stream.gathered (now (ops .entry)) (now (a .entry)) (now (b .entry))
+        (now (values .entry)) sum ⌝ }
 {
     let n = lesser(lesser(ops.len(), a.len()), lesser(b.len(), values.len()));
     let mut k = Kernel::fresh();

@@ -16,6 +16,7 @@
 use kernel::Command;
 use kernel::Kernel;
 use kernel::TaskID;
+use numbers::wide;
 
 mod words;
 
@@ -251,10 +252,6 @@ impl Bench {
             _ => self,
         }
     }
-}
-
-fn wide(x: u8) -> u64 {
-    x as u64
 }
 
 // A byte of the input, or 256 at its end.

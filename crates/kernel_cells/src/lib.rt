@@ -4,6 +4,7 @@ ghost use mathlib.Core.Path.{_≡_};
 ghost use lib.ListN.{replicate};
 ghost use Rattle.kernel_cells.specs.Cells as cells;
 use kernel_line::TaskID;
+use rules::FOR_ENTRY;
 
 // Where a task stands: nowhere is 0, in two places or twice in one is 9.
 pub const READY: u8 = 1;
@@ -19,7 +20,7 @@ fn task_fits(base: u8, place: u8, held: u8, way: u8) -> bool
 {
     let stands = (base == 0) & (place == 0) | !(base == 0) & !(place == 0);
     let hands = (held == 0) & (way == 0) | !(held == 0) & !(way == 0) & (place == READY);
-    (base <= 15) & (place <= WAITING) & (way <= 2) & stands & hands
+    (base <= 15) & (place <= WAITING) & (way <= FOR_ENTRY) & stands & hands
 }
 
 // No exit before the end: so the compiler tests sixteen tasks at a time.
@@ -29,7 +30,8 @@ pub fn tasks_fit<'a>(
     held: &'a [u8; 32],
     way: &'a [u8; 32],
 ) -> bool
-    ensures { λ r. ⌜ r ≡ cells.tasksFit (now (base .entry)) (now (place .entry)) (now (held .entry)) (now (way .entry)) ⌝ }
+    ensures { λ r. ⌜ r ≡ cells.tasksFit (now (base .entry)) (now (place .entry)) (now (held .entry))
+        (now (way .entry)) ⌝ }
 {
     let mut fit = true;
     let mut t = 0;

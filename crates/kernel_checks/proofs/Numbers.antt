@@ -1,13 +1,14 @@
 -- What the checks look up by a number: the clock's end, and an op that is none. Assumes nothing.
 use Prim.Native.Nat.{ℕ, zero, suc, _+_, _-_, _≤_, _<_, _^_}
 use native.Mathlib.Omega.{arith}
-use mathlib.Core.Path.{_≡_, refl}
+use mathlib.Core.Path.{_≡_, refl, sym}
 use mathlib.Core.Logic.{_≢_}
 use mathlib.Core.Bool.{Bool, true, false, not}
 use lib.Dec.{ltb}
+use lib.ListN.{List·getD-eq-default}
 use borrow.Author.Tests.{ltb-true, ltb-false, lt-ltb, le-ltb}
 use Rattle.rules.specs.declared.Kind.the-variants.{NoKind}
-use Rattle.rules.specs.Kinds.{kind-at}
+use Rattle.rules.specs.Kinds.{kinds, last-op, kind-at}
 
 -- the clock's end
 pub past-end : (clock n : ℕ) → clock < 2 ^ 64 → ltb (18446744073709551615 - clock) n ≡ not (ltb (clock + n) (2 ^ 64))
@@ -17,18 +18,16 @@ past-end clock n h = go (ltb (clock + n) (2 ^ 64)) refl
     go true e = let z : clock + n < 2 ^ 64 = ltb-true _ _ e in le-ltb (18446744073709551615 - clock) n (omega arith)
     go false e = let z : 2 ^ 64 ≤ clock + n = ltb-false _ _ e in lt-ltb (18446744073709551615 - clock) n (omega arith)
 
--- what is none of the ops 1..11
-pub no-op : (op : ℕ) → op ≢ 1 → op ≢ 2 → op ≢ 3 → op ≢ 4 → op ≢ 5 → op ≢ 6 → op ≢ 7 → op ≢ 8 → op ≢ 9 → op ≢ 10 → op ≢ 11 → NoKind ≡ kind-at op
-no-op zero n1 n2 n3 n4 n5 n6 n7 n8 n9 n10 n11 = refl
-no-op (suc zero) n1 n2 n3 n4 n5 n6 n7 n8 n9 n10 n11 = absurd (n1 refl)
-no-op (suc (suc zero)) n1 n2 n3 n4 n5 n6 n7 n8 n9 n10 n11 = absurd (n2 refl)
-no-op (suc (suc (suc zero))) n1 n2 n3 n4 n5 n6 n7 n8 n9 n10 n11 = absurd (n3 refl)
-no-op (suc (suc (suc (suc zero)))) n1 n2 n3 n4 n5 n6 n7 n8 n9 n10 n11 = absurd (n4 refl)
-no-op (suc (suc (suc (suc (suc zero))))) n1 n2 n3 n4 n5 n6 n7 n8 n9 n10 n11 = absurd (n5 refl)
-no-op (suc (suc (suc (suc (suc (suc zero)))))) n1 n2 n3 n4 n5 n6 n7 n8 n9 n10 n11 = absurd (n6 refl)
-no-op (suc (suc (suc (suc (suc (suc (suc zero))))))) n1 n2 n3 n4 n5 n6 n7 n8 n9 n10 n11 = absurd (n7 refl)
-no-op (suc (suc (suc (suc (suc (suc (suc (suc zero)))))))) n1 n2 n3 n4 n5 n6 n7 n8 n9 n10 n11 = absurd (n8 refl)
-no-op (suc (suc (suc (suc (suc (suc (suc (suc (suc zero))))))))) n1 n2 n3 n4 n5 n6 n7 n8 n9 n10 n11 = absurd (n9 refl)
-no-op (suc (suc (suc (suc (suc (suc (suc (suc (suc (suc zero)))))))))) n1 n2 n3 n4 n5 n6 n7 n8 n9 n10 n11 = absurd (n10 refl)
-no-op (suc (suc (suc (suc (suc (suc (suc (suc (suc (suc (suc zero))))))))))) n1 n2 n3 n4 n5 n6 n7 n8 n9 n10 n11 = absurd (n11 refl)
-no-op (suc (suc (suc (suc (suc (suc (suc (suc (suc (suc (suc (suc op)))))))))))) n1 n2 n3 n4 n5 n6 n7 n8 n9 n10 n11 = refl
+-- What a match on 1, 2, .. n leaves: none of these; then it is 0 or above n.
+abbrev pub Apart : ℕ → ℕ → Type 0
+Apart zero op = Unit {0}
+Apart (suc n) op = Apart n op × (op ≢ suc n)
+
+beyond : (n op : ℕ) → Apart n op → op ≢ 0 → n < op
+beyond zero op apart some = omega arith
+beyond (suc n) op apart some = let h : n < op = beyond n op (apart .0) some in let d : op ≢ suc n = apart .1 in omega arith
+
+-- So what is none of the ops has no kind.
+pub no-op : (op : ℕ) → Apart last-op op → NoKind ≡ kind-at op
+no-op zero apart = refl
+no-op (suc op) apart = sym (List·getD-eq-default kinds NoKind (beyond last-op (suc op) apart (λ z. omega arith)))

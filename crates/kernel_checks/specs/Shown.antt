@@ -13,6 +13,10 @@ use Rattle.kernel_checks.specs.declared.Command as given
 abbrev pub to-rules : given.Command → Command
 to-rules c = record { op = c .op; a = c .a; b = c .b; value = c .value }
 
+-- The program's command with these numbers.
+abbrev pub cmd : ℕ → ℕ → ℕ → ℕ → given.Command
+cmd op a b value = record { op = op; a = a; b = b; value = value }
+
 -- A cell as a queue: 0 is nobody.
 abbrev pub nobody-or : ℕ → List ℕ
 nobody-or w = cond (eqb w 0) [] (w ∷ [])

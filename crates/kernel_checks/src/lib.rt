@@ -6,6 +6,8 @@ ghost use mathlib.Core.Bool.{cond};
 ghost use Rattle.rules.specs.Refusals.{fits, barrier, unused, formed-as};
 ghost use Rattle.kernel_checks.specs.Shown.{to-rules};
 pub use rules::End;
+use rules::FOR_ENTRY;
+use rules::FOR_OPEN;
 pub use rules::Kind;
 
 mod refusals;
@@ -19,7 +21,7 @@ pub const LAST_OBJECT: u8 = 7;
 
 pub const TOP_PRIORITY: u8 = 15;
 
-// Any numbers: an op that is not 1..11 is refused, and so is an operand out of its range.
+// Any numbers: an op that is none is refused, and so is an operand out of its range.
 pub struct Command {
     pub op: u8,
     pub a: u8,
@@ -42,16 +44,16 @@ impl Command {
             6 => Kind::Advancing,
             7 => Kind::Opening,
             8 => Kind::Ending(End {
-                way: 1,
+                way: FOR_OPEN,
                 serves: true,
             }),
             9 => Kind::Ending(End {
-                way: 1,
+                way: FOR_OPEN,
                 serves: false,
             }),
             10 => Kind::Entering,
             11 => Kind::Ending(End {
-                way: 2,
+                way: FOR_ENTRY,
                 serves: true,
             }),
             _ => Kind::NoKind,

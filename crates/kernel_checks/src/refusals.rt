@@ -11,7 +11,7 @@ use crate::Kind;
 use crate::formed;
 use kernel_line::POId;
 use kernel_line::TaskID;
-use kernel_line::choose;
+use numbers::choose;
 
 // create: `named` is the base of the task that it names
 fn creating(started: bool, a: u8, named: u8) -> u8

@@ -17,7 +17,6 @@ use Rattle.kernel_line.proofs.of_object
 use Rattle.kernel_line.proofs.set_task
 use Rattle.kernel_line.proofs.set_time
 use Rattle.kernel_line.proofs.set_object
-use Rattle.kernel_line.proofs.choose
 use Rattle.kernel_line.proofs.front_time
 use Rattle.kernel_line.proofs.lead_task
 use Rattle.kernel_line.proofs.put_at
@@ -45,9 +44,6 @@ module _ {M : Type 1} (𝓤 : URA M) (H : Heap 𝓤) (A : Atoms 𝓤) (mem : Mem
 
   pub set-object-single : OneEnd 𝓤 set_object.ended (set_object.clauses 𝓤 H A mem run) (List ℕ) (λ κs r e. now (e .0))
   set-object-single κs a g r s d e = one 𝓤 _ _ _
-
-  pub choose-single : OneAnswer 𝓤 choose.ended (choose.clauses 𝓤 H A mem run)
-  choose-single κs a g r s d e = one 𝓤 _ _ _
 
   pub front-time-single : OneAnswer 𝓤 front_time.ended (front_time.clauses 𝓤 H A mem run)
   front-time-single κs a g r s d e = one 𝓤 _ _ _

@@ -4,7 +4,6 @@
 // call inside a loop over 32. A table or line that changes is lent and changed where it lies. A lent array that is
 // looked at as a slice has its length, so no caller has to promise it.
 ghost use mathlib.Core.Path.{_≡_};
-ghost use mathlib.Core.Bool.{cond};
 ghost use lib.Dec.{eqb};
 ghost use lib.ListN.{set};
 ghost use Rattle.rules.specs.Line.{at, count};
@@ -81,13 +80,6 @@ pub fn set_object(table: &mut [u8; 8], o: POId, v: u8)
         let i = n as usize;
         cells[i] = v;
     }
-}
-
-// The one number or the other.
-pub fn choose(test: bool, a: u8, b: u8) -> u8
-    ensures { λ r. ⌜ r ≡ cond test a b ⌝ }
-{
-    if test { a } else { b }
 }
 
 // ---- place, and take the front off

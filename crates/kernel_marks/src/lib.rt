@@ -4,7 +4,7 @@ ghost use mathlib.Core.Path.{_≡_};
 ghost use lib.Dec.{leb};
 ghost use Rattle.kernel_line.specs.Tables.{no-task};
 ghost use Rattle.kernel_marks.specs.Marks.{marks};
-use kernel_line::choose;
+use numbers::choose;
 
 // Where each task stands: the mark of the line or of the objects, on top of what was marked before; 9 for a task that
 // stands twice.

@@ -6,6 +6,7 @@ ghost use mathlib.Core.Path.{_≡_};
 ghost use mathlib.Core.Bool.{true, cond};
 ghost use lib.Dec.{eqb};
 ghost use lib.ListN.{set};
+ghost use Rattle.rules.specs.Machine.{for-entry};
 ghost use Rattle.kernel_ready.specs.Ready.{runner-in, popped, tailed, to-tail, released-line};
 ghost use Rattle.kernel_ops.specs.Moves.{waits-in, closed-line};
 use kernel_line::POId;
@@ -87,7 +88,7 @@ fn waiting(waiter: &[u8; 8], o: POId, serves: bool) -> u8
     ensures { λ r. ⌜ r ≡ waits-in (now (waiter .entry)) (o .0) serves ⌝ }
 {
     let w = *waiter;
-    kernel_line::choose(serves, kernel_line::of_object(w, o), 0)
+    numbers::choose(serves, kernel_line::of_object(w, o), 0)
 }
 
 // 8 and 11, where t waits and the barrier is open: it goes to the tail of its base
@@ -134,11 +135,11 @@ pub fn enter(
         let q = now (waiter .entry) in
         ⌜ (r ≡ 0) × (now (ready .exit) ≡ cond (eqb b 1) l (popped l))
         × (now (held .exit) ≡ cond (eqb b 1) (set h (runner-in l) (o .0)) h)
-        × (now (way .exit) ≡ cond (eqb b 1) (set w (runner-in l) 2) w)
+        × (now (way .exit) ≡ cond (eqb b 1) (set w (runner-in l) for-entry) w)
         × (now (waiter .exit) ≡ cond (eqb b 1) q (set q (o .0) (runner-in l))) ⌝ }
 {
     if b == 1 {
-        hold(ready, held, way, o, 2)
+        hold(ready, held, way, o, rules::FOR_ENTRY)
     } else {
         queue(ready, waiter, o)
     }

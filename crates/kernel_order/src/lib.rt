@@ -5,8 +5,8 @@ ghost use mathlib.Core.Path.{_≡_};
 ghost use Rattle.kernel_line.specs.Tables.{zeros};
 ghost use Rattle.kernel_order.specs.Order.{ended, falls, rises};
 use kernel_line::POId;
-use kernel_line::choose;
 use kernel_line::of_object;
+use numbers::choose;
 
 // Behind a free place all are free. No exit before the end: so the compiler tests sixteen places at a time.
 pub fn is_ended(line: &[u8; 32]) -> bool
@@ -22,14 +22,14 @@ pub fn is_ended(line: &[u8; 32]) -> bool
     ends
 }
 
-// All places are free.
-pub fn is_free(line: &[u8; 32]) -> bool
-    ensures { λ r. ⌜ r ≡ zeros (now (line .entry)) ⌝ }
+// All places are free: of a table, or of any bytes. All of them are looked at, found or not: without a way out of the
+// loop LLVM looks at many at a time.
+pub fn is_free(cells: &[u8]) -> bool
+    ensures { λ r. ⌜ r ≡ zeros (now (cells .entry)) ⌝ }
 {
-    let cells: &[u8] = line;
     let mut free = true;
-    let mut i = 0;
-    while i < 32 {
+    let mut i: usize = 0;
+    while i < cells.len() {
         free = free & (cells[i] == 0);
         i += 1;
     }

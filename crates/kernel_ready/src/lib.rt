@@ -1,8 +1,7 @@
 // The ready line in its table: who is in front, who is shown as running, the front taken off, a task put at the tail or
-// at the head of a priority. No code above this crate looks into the table. (The tests of a saved line: crate kernel_order.)
+// at the head of a priority. No code above this crate looks into the table. (The tests of a saved line: crate
+// kernel_order.)
 ghost use mathlib.Core.Path.{_≡_};
-ghost use mathlib.Core.Bool.{cond};
-ghost use Rattle.rules.specs.Line.{at};
 ghost use Rattle.kernel_line.specs.Tables.{lead};
 ghost use Rattle.kernel_ready.specs.Ready.{runner-in, running-in, popped, lower, tailed, headed, to-tail, task};
 use kernel_line::POId;
@@ -21,7 +20,7 @@ pub fn running(started: bool, ready: &[u8; 32]) -> TaskID
     ensures { λ r. ⌜ r ≡ task (running-in started (now (ready .entry))) ⌝ }
 {
     let front = ready[0];
-    TaskID(kernel_line::choose(started, front, 0))
+    TaskID(numbers::choose(started, front, 0))
 }
 
 // The front is taken off.
@@ -45,7 +44,7 @@ fn front_level(ready: &[u8; 32], base: &[u8; 32], ceiling: [u8; 8], held: &[u8; 
         let j = x as usize;
         let o = held[j];
         let top = kernel_line::of_object(ceiling, POId(o));
-        if kernel_line::choose(o == 0, base[j], top) < p {
+        if numbers::choose(o == 0, base[j], top) < p {
             return i;
         }
         i += 1;

@@ -1,23 +1,10 @@
-// The test of a saved state: document 01's conditions, and that every unused cell is 0. (The cells, table by table: crate
-// kernel_cells. The lines: crates kernel_order and kernel_marks.)
+// The test of a saved state: document 01's conditions, and that every unused cell is 0. (The cells, table by table:
+// crate kernel_cells. The lines: crates kernel_order and kernel_marks.)
 ghost use mathlib.Core.Path.{_≡_};
-ghost use Rattle.kernel_line.specs.Tables.{zeros};
 ghost use Rattle.kernel_sound.specs.Test as test;
 use kernel_cells::DELAYED;
 use kernel_cells::READY;
 use kernel_cells::WAITING;
-
-fn nobody_waits(waiter: [u8; 8]) -> bool
-    ensures { λ r. ⌜ r ≡ zeros waiter ⌝ }
-{
-    let mut free = true;
-    let mut i = 0;
-    while i < 8 {
-        free = free & (waiter[i] == 0);
-        i += 1;
-    }
-    free
-}
 
 // Before Start the clock is 0 and nothing is delayed, waiting or held.
 fn is_calm(started: bool, clock: u64, first: u8, waiter: [u8; 8], held: &[u8; 32]) -> bool
@@ -26,7 +13,7 @@ fn is_calm(started: bool, clock: u64, first: u8, waiter: [u8; 8], held: &[u8; 32
     if started {
         return true;
     }
-    (clock == 0) & (first == 0) & nobody_waits(waiter) & kernel_order::is_free(held)
+    (clock == 0) & (first == 0) & kernel_order::is_free(&waiter) & kernel_order::is_free(held)
 }
 
 // The whole test, table by table: the state itself goes into no call, and a table of 32 is lent.
@@ -42,7 +29,8 @@ pub fn tested<'a>(
     clock: u64,
     started: bool,
 ) -> bool
-    ensures { λ r. ⌜ r ≡ test.testOf (now (base .entry)) (now (ready .entry)) (now (delayed .entry)) (now (held .entry)) (now (way .entry)) (now (until .entry)) ceiling waiter clock started ⌝ }
+    ensures { λ r. ⌜ r ≡ test.testOf (now (base .entry)) (now (ready .entry)) (now (delayed .entry)) (now (held .entry))
+        (now (way .entry)) (now (until .entry)) ceiling waiter clock started ⌝ }
 {
     let ended = kernel_order::is_ended(ready) & kernel_order::is_ended(delayed);
     let falling = kernel_order::is_falling(ready, base, ceiling, held);

@@ -65,7 +65,7 @@ fn due(delayed: &[u8; 32], until: &[u64; 32], clock: u64) -> u8
     ensures { λ r. ⌜ r ≡ due-in (now (delayed .entry)) (now (until .entry)) clock ⌝ }
 {
     let t = delayed[0];
-    kernel_line::choose(kernel_line::time_of(until, TaskID(t)) <= clock, t, 0)
+    numbers::choose(kernel_line::time_of(until, TaskID(t)) <= clock, t, 0)
 }
 
 // 5, where the first delay entry is due: it goes to the tail of its base

@@ -15,7 +15,7 @@ use denote.Triple.Clauses.{Ended, AtExit, Clauses}
 
 -- Two pairs, and two triples, whose parts are equal to a third's.
 
-same-pair : {X Y : Type 0} {r s : X} {m n : Y} → r ≡ s → m ≡ n → _≡_ {A = X × Y} (r, m) (s, n)
+pub same-pair : {X Y : Type 0} {r s : X} {m n : Y} → r ≡ s → m ≡ n → _≡_ {A = X × Y} (r, m) (s, n)
 same-pair p q = cc
 
 pub same-three : {X Y Z : Type 0} {r s : X} {m n : Y} {u v : Z} → r ≡ s → m ≡ n → u ≡ v → _≡_ {A = X × Y × Z} (r, m, u) (s, n, v)

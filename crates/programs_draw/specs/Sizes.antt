@@ -19,4 +19,4 @@ draw-lot = 384
 -- Whether draw still reads: it is at its first line or its setup lines, and its first line is not over 128 bytes
 -- already.
 abbrev pub draw-wants : Reader → Bool
-draw-wants r = ltb (r .draw .stage) 2 && not (eqb (r .draw .stage) 0 && leb 129 (r .held .count))
+draw-wants r = ltb (r .run .stage) 2 && not (eqb (r .run .stage) 0 && leb 129 (r .held .count))

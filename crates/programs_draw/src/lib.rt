@@ -21,7 +21,7 @@ use programs_flow::read_piece;
 use programs_flow::status;
 use programs_flow::write_whole;
 use programs_hint::hinted;
-use session_draw::Drew;
+use session_draw::Printed;
 use session_draw::Read;
 use session_draw::Reader;
 use session_draw::begin;
@@ -29,7 +29,10 @@ use session_draw::draw_some;
 use session_draw::feed;
 use session_draw::finish;
 use session_draw::header;
-use session_stage::Draw;
+use session_stage::DRAWING;
+use session_stage::DrawRun;
+use session_stage::FIRST_LINE;
+use session_stage::OVER;
 
 // The draw behind what was read, how the work stands, and whether a hint was given.
 struct Turn {
@@ -43,9 +46,9 @@ struct Turn {
 fn reads(r: Reader) -> bool
     ensures { λ x. ⌜ x ≡ draw-wants r ⌝ }
 {
-    let d = r.draw;
+    let d = r.run;
     let held = r.held;
-    (d.stage < 2) & !((d.stage == 0) & (129 <= held.count))
+    (d.stage < DRAWING) & !((d.stage == FIRST_LINE) & (129 <= held.count))
 }
 
 // Where out is the one that `work` lends, there is room for the header, for all that a piece prints, for the end of
@@ -66,17 +69,17 @@ fn put_lines(r: Reader, piece: &[u8], out: &mut [u8]) -> Read
     feed(r, piece, out)
 }
 
-fn put_end(r: Reader, out: &mut [u8]) -> Drew
+fn put_end(r: Reader, out: &mut [u8]) -> Printed
     requires { ⌜ draw-lent ≡ length (now out) ⌝ }
-    ensures { λ x. ⌜ (x .draw ≡ draws.end-behind r) × loops.Put (x .at) (now (out .exit)) (draws.end-text r)
+    ensures { λ x. ⌜ (x .run ≡ draws.end-behind r) × loops.Put (x .at) (now (out .exit)) (draws.end-text r)
         × In-front (x .at) (now (out .exit)) ⌝ }
 {
     finish(r, out)
 }
 
-fn put_draws(d: Draw, out: &mut [u8]) -> Drew
+fn put_draws(d: DrawRun, out: &mut [u8]) -> Printed
     requires { ⌜ draw-lent ≡ length (now out) ⌝ }
-    ensures { λ x. ⌜ (x .draw ≡ draws.some-behind draw-lot d)
+    ensures { λ x. ⌜ (x .run ≡ draws.some-behind draw-lot d)
         × loops.Put (x .at) (now (out .exit)) (draws.some-text draw-lot d) × In-front (x .at) (now (out .exit)) ⌝ }
 {
     draw_some(d, 384, out)
@@ -134,17 +137,17 @@ fn all_pieces(fd: i32, headed: Went, piece: &mut [u8], out: &mut [u8]) -> Turn
 }
 
 // The draws that are left, a lot to a write. Where a read or a write has failed there are none.
-fn all_draws(d: Draw, ended: Went, out: &mut [u8]) -> Went
+fn all_draws(d: DrawRun, ended: Went, out: &mut [u8]) -> Went
     requires { ⌜ draw-lent ≡ length (now out) ⌝ }
     ensures { λ x. ⌜ loops.Concluded (draws.some-text (d .left) d) ended x ⌝ }
 {
-    let mut draw = d;
+    let mut run = d;
     let mut went = ended;
-    while !has_failed(went) && draw.stage == 2 && 0 < draw.left {
-        let f = put_draws(draw, out);
+    while !has_failed(went) && run.stage == DRAWING && 0 < run.left {
+        let f = put_draws(run, out);
         let at = f.at;
         went = write_whole(went, &out[..at]);
-        draw = f.draw;
+        run = f.run;
     }
     went
 }
@@ -160,8 +163,8 @@ fn conclude(r: Reader, read: Went, out: &mut [u8]) -> Went
     let f = put_end(r, out);
     let at = f.at;
     let ended = write_whole(read, &out[..at]);
-    let d = f.draw;
-    if d.stage == 3 {
+    let d = f.run;
+    if d.stage == OVER {
         hint_zeros();
     }
     all_draws(d, ended, out)

@@ -21,6 +21,7 @@ use Rattle.kernel.specs.Public.{to-rules, leftOf}
 use Rattle.kernel.proofs.Padded.{Right, own-right}
 pub use Rattle.kernel.proofs.Whole.{running-tie}
 use Rattle.kernel.proofs.Round.{sound-own, view-encode}
+use Rattle.kernel.proofs.Whole.{clock-tie}
 use Rattle.kernel.proofs.Written.{step-on, encode-sound}
 use Rattle.promises.specs.Words.{freshOf, runOf, answersOf, momentsOf, wokeBy, wakesOf, DueIn}
 
@@ -57,10 +58,6 @@ module _ (m : Machine) (s : Sound m) where
   unfolding encode
   time-tie r h = right-at (times (m .delay)) (m .delay) r (own-right (m .delay) (sound-own m s)) h
 
-  clock-tie : encode m .clock ≡ m .clock
-  unfolding encode
-  clock-tie = refl
-
   pub due-at : (t r : ℕ) → DueIn (encode m) t r → DueAt m t r
   due-at t r d =
       let e : getD (m .delay) r (0, 0) .1 ≡ t = sym (task-tie r) ∙ d .task in
@@ -68,14 +65,14 @@ module _ (m : Machine) (s : Sound m) where
       record {
         inside = h;
         task = e;
-        due = (let z : at (encode m .until) t ≡ getD (m .delay) r (0, 0) .0 = rw e at (time-tie r h) in omega (arith, z, d .due, clock-tie));
+        due = (let z : at (encode m .until) t ≡ getD (m .delay) r (0, 0) .0 = rw e at (time-tie r h) in omega (arith, z, d .due, clock-tie m));
       }
 
   pub due-in : (t r : ℕ) → DueAt m t r → DueIn (encode m) t r
   due-in t r d = record {
     task = task-tie r ∙ d .task;
     there = W.not-idle m s t r d;
-    due = (let z : at (encode m .until) t ≡ getD (m .delay) r (0, 0) .0 = rw (d .task) at (time-tie r (d .inside)) in omega (arith, z, d .due, clock-tie));
+    due = (let z : at (encode m .until) t ≡ getD (m .delay) r (0, 0) .0 = rw (d .task) at (time-tie r (d .inside)) in omega (arith, z, d .due, clock-tie m));
   }
 
   pub left-tie : (t : ℕ) → leftOf (encode m) t .left ≡ question m t .left

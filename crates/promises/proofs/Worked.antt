@@ -9,12 +9,14 @@ use Rattle.rules.specs.Sound.{sound}
 use Rattle.rules.specs.Run as rules
 use Rattle.kernel.specs.declared.Kernel.{Kernel}
 use Rattle.kernel_checks.specs.declared.Command.{Command}
+use Rattle.kernel_checks.specs.Shown.{cmd}
 use Rattle.kernel.specs.View.{encode, view, tidy}
 use Rattle.kernel.specs.Public.{isSound, stepOf, stepped}
 use Rattle.generator.specs.declared.Profile.{Profile}
 use Rattle.generator_draws.specs.Xorshift.{draw}
 use Rattle.generator_draws.specs.Menu.{menu}
 use Rattle.generator_draws.specs.Draw.{drawn, drawn-by, made-by, draw-refusal}
+use Rattle.generator_draws.proofs.Theorems as definitions
 use Rattle.generator.specs.Public.{drawnIn, drawnOf}
 use Rattle.promises.specs.Words.{freshOf, runOf}
 
@@ -37,9 +39,6 @@ linesOf n k (c ∷ cs) =
     let a = s .answer in
     record { n = n; op = c .op; code = a .code; running = a .running .0; released = a .released .0; clock = s .next .clock } ∷ linesOf (suc n) (s .next) cs
 
-abbrev cmd : ℕ → ℕ → ℕ → ℕ → Command
-cmd op a b value = record { op = op; a = a; b = b; value = value }
-
 -- create 1 3, create 2 5, create 3 3, object 1 4, start
 abbrev pub setUp : List Command
 setUp = cmd 1 1 3 0 ∷ cmd 1 2 5 0 ∷ cmd 1 3 3 0 ∷ cmd 2 1 4 0 ∷ cmd 3 0 0 0 ∷ []
@@ -53,7 +52,7 @@ walk =
 
 -- seed 1 span 100 weights 10 10 10 10 10 10 10 10
 abbrev tens : Profile
-tens = record { span = 100; weights = 10 ∷ 10 ∷ 10 ∷ 10 ∷ 10 ∷ 10 ∷ 10 ∷ 10 ∷ [] }
+tens = record { span = definitions.tens .span; weights = definitions.tens .weights }
 
 -- The walk's sixteen lines; the first three draws from seed 1; and the command that seed 1 draws behind the set-up, the delay until 39.
 pub worked :
@@ -76,5 +75,6 @@ pub worked :
     line 16 8 0 3 1 10 ∷ [])
     × (draw 1 ∷ draw (draw 1) ∷ draw (draw (draw 1)) ∷ [] ≡ 270369 ∷ 67634689 ∷ 2647435461 ∷ [])
     × (drawnOf (runOf freshOf setUp) 1 tens ≡ record { code = 0; command = cmd 4 0 0 39; seed = 2647435461 })
-unfolding runOf stepOf freshOf isSound tidy view encode sound all-below rules.answer rules.next rules.released refusal carry leave release draw drawnOf drawnIn drawn drawn-by made-by draw-refusal menu
+unfolding runOf stepOf freshOf isSound tidy view encode sound all-below rules.answer rules.next rules.released refusal
+    carry leave release draw drawnOf drawnIn drawn drawn-by made-by draw-refusal menu
 worked = (refl, refl, refl)

@@ -9,15 +9,11 @@ use ghost.Atoms.{Atoms}
 use contract.Monad.{Fun}
 use Rattle.one_answer.proofs.Law.{OneAnswer, one}
 use Rattle.record.proofs.header
-use Rattle.record.proofs.choose
 use Rattle.record.proofs.fault
 
 module _ {M : Type 1} (𝓤 : URA M) (H : Heap 𝓤) (A : Atoms 𝓤) (mem : Memory → SProp 𝓤) (run : Routine → Fun 𝓤) where
   pub header-single : OneAnswer 𝓤 header.ended (header.clauses 𝓤 H A mem run)
   header-single κs a g r s d e = one 𝓤 _ _ _
-
-  pub choose-single : OneAnswer 𝓤 choose.ended (choose.clauses 𝓤 H A mem run)
-  choose-single κs a g r s d e = one 𝓤 _ _ _
 
   pub fault-single : OneAnswer 𝓤 fault.ended (fault.clauses 𝓤 H A mem run)
   fault-single κs a g r s d e = one 𝓤 _ _ _

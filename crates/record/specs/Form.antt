@@ -23,6 +23,34 @@ lastTask = 31
 abbrev pub lastSeed : ℕ
 lastSeed = 4294967295
 
+-- The 16 bytes by name: the two bytes of the mark, where each field of one byte stands, and where the value begins.
+abbrev pub mark-first : ℕ
+mark-first = 82
+
+abbrev pub mark-second : ℕ
+mark-second = 86
+
+abbrev pub op-at : ℕ
+op-at = 2
+
+abbrev pub a-at : ℕ
+a-at = 3
+
+abbrev pub b-at : ℕ
+b-at = 4
+
+abbrev pub code-at : ℕ
+code-at = 5
+
+abbrev pub running-at : ℕ
+running-at = 6
+
+abbrev pub released-at : ℕ
+released-at = 7
+
+abbrev pub value-at : ℕ
+value-at = 8
+
 -- a value's 8 bytes, least first
 abbrev pub le8 : ℕ → List ℕ
 le8 x =
@@ -39,24 +67,25 @@ ofLe p i =
 -- a record's 16 bytes: the mark 0x52 0x56, then op, a, b, code, running, released, one byte each, then value, 8 bytes,
 -- least first
 unfoldable pub bytesOf : Record → List ℕ
-bytesOf r = 82 ∷ 86 ∷ r .op ∷ r .a ∷ r .b ∷ r .code ∷ r .running ∷ r .released ∷ le8 (r .value)
+bytesOf r =
+    mark-first ∷ mark-second ∷ r .op ∷ r .a ∷ r .b ∷ r .code ∷ r .running ∷ r .released ∷ le8 (r .value)
 
 -- the fields that 16 bytes hold, whatever their mark; a byte that is not there counts as 0
 unfoldable pub recordOf : List ℕ → Record
 recordOf p =
     record {
-      op = getD p 2 0;
-      a = getD p 3 0;
-      b = getD p 4 0;
-      code = getD p 5 0;
-      running = getD p 6 0;
-      released = getD p 7 0;
-      value = ofLe p 8;
+      op = getD p op-at 0;
+      a = getD p a-at 0;
+      b = getD p b-at 0;
+      code = getD p code-at 0;
+      running = getD p running-at 0;
+      released = getD p released-at 0;
+      value = ofLe p value-at;
     }
 
 -- the mark 0x52 0x56
 abbrev pub marked : List ℕ → Bool
-marked p = eqb (getD p 0 0) 82 && eqb (getD p 1 0) 86
+marked p = eqb (getD p 0 0) mark-first && eqb (getD p 1 0) mark-second
 
 -- an edition, by which the commands of a tape were drawn: 1, or 2, by even odds (request 4)
 abbrev pub isEdition : ℕ → Bool

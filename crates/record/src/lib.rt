@@ -3,10 +3,10 @@
 //
 // No public function has a `requires`. specs/ says what each answer is.
 ghost use mathlib.Core.Path.{_≡_};
-ghost use mathlib.Core.Bool.{cond};
 ghost use Rattle.record.specs.Form.{headerFields, isSeed, commandFields};
 ghost use Rattle.record.specs.Form.{headerOf};
 ghost use Rattle.record.specs.Fault.{headerFault, commandFault, faultOf};
+use numbers::choose;
 
 // The length of a record.
 pub const RECORD_BYTES: usize = 16;
@@ -74,13 +74,6 @@ fn is_seed(v: u64) -> bool
     ensures { λ t. ⌜ t ≡ isSeed v ⌝ }
 {
     (1 <= v) & (v <= LAST_SEED)
-}
-
-// Of two numbers that are both at hand.
-pub fn choose(t: bool, x: u8, y: u8) -> u8
-    ensures { λ r. ⌜ r ≡ cond t x y ⌝ }
-{
-    if t { x } else { y }
 }
 
 fn header_fault(r: Record) -> u8

@@ -3,9 +3,9 @@
 //
 // No public function has a `requires`. What each answer is: crate record, specs/Form.
 ghost use mathlib.Core.Path.{_≡_};
-ghost use Prim.Native.Nat.{_<_};
 ghost use lib.ListN.{getD};
 ghost use Rattle.record.specs.Form.{le8, ofLe, bytesOf, recordOf, marked};
+use numbers::wide;
 use record::Record;
 
 // The byte at an index, 0 past the end: so that what is read of too few bytes is fixed too.
@@ -13,12 +13,6 @@ fn byte(p: &[u8], i: usize) -> u8
     ensures { λ r. ⌜ r ≡ getD (now (p .entry)) i 0 ⌝ }
 {
     if i < p.len() { p[i] } else { 0 }
-}
-
-fn wide(x: u8) -> u64
-    ensures { λ r. ⌜ (r ≡ x) × (r < 256) ⌝ }
-{
-    x as u64
 }
 
 // The number that 8 bytes hold, least first. (The image reads its numbers by it too.)

@@ -1,10 +1,10 @@
 // What a record keeps of an answer: code, running and released. Of all that an answer may say a tape carries these
 // three alone, and a judge compares them alone. And the three in one number, as C hosts get them.
 ghost use mathlib.Core.Path.{_≡_};
-ghost use Prim.Native.Nat.{_<_};
 ghost use Rattle.record_kept.specs.Kept.{kept-of, kept-on, alike, packed};
 use kernel::Answer;
 use kernel::TaskID;
+use numbers::wide32;
 use record::Record;
 
 pub struct Kept {
@@ -44,17 +44,11 @@ pub fn same(x: Kept, y: Kept) -> bool
     (x.code == y.code) & (x.running.0 == y.running.0) & (x.released.0 == y.released.0)
 }
 
-fn wide(x: u8) -> u32
-    ensures { λ r. ⌜ (r ≡ x) × (r < 256) ⌝ }
-{
-    x as u32
-}
-
 // In one number: code + 256 * running + 65536 * released.
 pub fn pack(k: Kept) -> u32
     ensures { λ r. ⌜ r ≡ packed k ⌝ }
 {
     let running = k.running;
     let released = k.released;
-    wide(k.code) + 256 * wide(running.0) + 65536 * wide(released.0)
+    wide32(k.code) + 256 * wide32(running.0) + 65536 * wide32(released.0)
 }

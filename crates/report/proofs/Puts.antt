@@ -1,5 +1,5 @@
 -- Text put at a place, one behind another. Assumes nothing.
-use Prim.Native.Nat.{ℕ, suc, _+_, _-_, _≤_, _<_}
+use Prim.Native.Nat.{ℕ, zero, suc, _+_, _-_, _≤_, _<_}
 use native.Mathlib.Omega.{arith}
 use mathlib.Core.Path.{_≡_, refl, sym, _∙_}
 use mathlib.Core.Logic.{_≢_}
@@ -31,18 +31,23 @@ then w v = record { written = and-then (w .written) (v .written); within = omega
 pub wider : {m : ℕ} (k : ℕ) {out after : List ℕ} {at next : ℕ} {text : List ℕ} → m ≤ k → Put m out at text after next → Put k out at text after next
 wider k h w = record { written = w .written; within = omega arith }
 
--- ---- words: that of op 1 stands first, and past that of op 11 there is none
+-- ---- words: that of op 1 stands first, and past that of the last op there is none
+
+-- What a match on 2, 3, .. up to n + 1 leaves: none of these; so what is above 1 is above n + 1.
+abbrev pub Apart : ℕ → ℕ → Type 0
+Apart zero op = Unit {0}
+Apart (suc n) op = Apart n op × (op ≢ suc (suc n))
+
+beyond : (n op : ℕ) → 1 < op → Apart n op → suc n < op
+beyond zero op h apart = omega arith
+beyond (suc n) op h apart = let k : suc n < op = beyond n op h (apart .0) in let d : op ≢ suc (suc n) = apart .1 in omega arith
 
 module _ (op : ℕ) where
   pub first-word : op < 2 → op - 1 ≡ 0
   first-word h = omega arith
 
-  past-words : 12 ≤ op → [] ≡ getD words (op - 1) []
-  past-words h = let l : 11 ≤ op - 1 = omega arith in sym (List·getD-eq-default words [] l)
-
-  up : (k : ℕ) → k ≤ op → op ≢ k → suc k ≤ op
-  up k h n = omega arith
-
-  pub no-word : 1 < op → op ≢ 2 → op ≢ 3 → op ≢ 4 → op ≢ 5 → op ≢ 6 → op ≢ 7 → op ≢ 8 → op ≢ 9 → op ≢ 10 → op ≢ 11 → [] ≡ getD words (op - 1) []
-  no-word h n2 n3 n4 n5 n6 n7 n8 n9 n10 n11 =
-      past-words (up 11 (up 10 (up 9 (up 8 (up 7 (up 6 (up 5 (up 4 (up 3 (up 2 h n2) n3) n4) n5) n6) n7) n8) n9) n10) n11)
+  pub no-word : 1 < op → Apart (length words - 1) op → [] ≡ getD words (op - 1) []
+  no-word h apart =
+      let k = beyond (length words - 1) op h apart in
+      let l : length words ≤ op - 1 = omega arith in
+      sym (List·getD-eq-default words [] l)

@@ -21,9 +21,9 @@ use judge_verdict::Judgement;
 use judge_verdict::Kept;
 use judge_verdict::Refusal;
 use judge_verdict::Verdict;
-use text_command::takes_a;
 use text_command::takes_b;
 use text_command::takes_value;
+use text_command::writes_a;
 use text_print::put_text;
 
 fn put(out: &mut [u8], at: usize, text: &[u8]) -> usize
@@ -103,7 +103,7 @@ fn put_line(out: &mut [u8], at: usize, c: Command) -> usize
 {
     let op = c.op;
     let a = put_word(out, at, op);
-    let b = put_operand(out, a, takes_a(op), c.a as u64);
+    let b = put_operand(out, a, writes_a(op, c.a), c.a as u64);
     let value = put_operand(out, b, takes_b(op), c.b as u64);
     put_operand(out, value, takes_value(op), c.value)
 }

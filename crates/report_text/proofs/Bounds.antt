@@ -39,7 +39,14 @@ line-short : (c : Command) → length (line-text c) ≤ 70
 unfolding line-of
 line-short c =
     simp length-append
-    (omega (arith, word-short (c .op - 1), operand-short (uses-a (c .op)) (c .a), operand-short (uses-b (c .op)) (c .b), operand-short (uses-value (c .op)) (c .value)))
+    (omega (
+      arith,
+      word-short (c .op - 1),
+      operand-short (uses-a (c .op)) (c .a),
+      operand-short (uses-b (c .op)) (c .b),
+      operand-short (uses-value (c .op))
+          (c .value),
+    ))
 
 -- ---- the parts of a report, each as the code has room for it
 

@@ -22,7 +22,7 @@ use Rattle.rules.proofs.Hands.{act-free, other-hand}
 use Rattle.rules.proofs.Sounds.{Sound, based, others, object-real}
 use Rattle.rules.proofs.Kept.{AllowedOut, freed-away, freed-free, release-sound, new-hand}
 use Rattle.rules.proofs.Accepted.{MayMove, Allowed, rel-of, Releases, nobody, woken, served, releases, wake-op, serve-op}
-use Rattle.rules.proofs.Step.{Step, kept, carried, step, next-sound, moved-started}
+use Rattle.rules.proofs.Step.{Step, kept, carried, step, next-sound, moved-rest, moved-started}
 use Rattle.rules.proofs.Clear.{Over, one-clear}
 
 -- One who may stand ahead of a task of base p: of at least its base; or the one task low, as long as it holds its object.
@@ -280,20 +280,11 @@ released-by m s c n = go (step m s c)
     go (carried e f w g) = of-row f (releases m c (kind c))
 
 -- A started machine's bases stay, and a step changes what the runner holds and nobody else's.
-release-base : (rel : Rel) (m : Machine) → (release rel m .base ≡ m .base) × ((y : ℕ) → last-opened (release rel m) y ≡ last-opened m y)
+release-held : (rel : Rel) (m : Machine) (y : ℕ) → last-opened (release rel m) y ≡ last-opened m y
 unfolding release
-release-base none m = (refl, λ y. refl)
-release-base due m = (refl, λ y. refl)
-release-base (serve o n) m = (refl, λ y. refl)
-
-leave-base : (out : Out) (m : Machine) → leave out m .base ≡ m .base
-unfolding leave
-leave-base same m = refl
-leave-base (take o w) m = refl
-leave-base yield m = refl
-leave-base close m = refl
-leave-base (sleep d) m = refl
-leave-base (await o) m = refl
+release-held none m y = refl
+release-held due m y = refl
+release-held (serve o n) m y = refl
 
 leave-held : (out : Out) (m : Machine) (y : ℕ) → ((out ≡ same → ⊥) → y ≢ runner m) → last-opened (leave out m) y ≡ last-opened m y
 unfolding leave
@@ -315,8 +306,7 @@ next-tables m s on c = go (step m s c)
     by-effect (declares o p) g = absurd (g .off on)
     by-effect begins g = absurd (g on)
     by-effect (moves out rel q) g =
-        let b = release-base rel m in
-        (leave-base out (release rel m) ∙ b .0, λ y n. leave-held out (release rel m) y (λ d z. n (z ∙ g .in-front d)) ∙ b .1 y)
+        (moved-rest out rel m .0, λ y n. leave-held out (release rel m) y (λ d z. n (z ∙ g .in-front d)) ∙ release-held rel m y)
 
     go : Step m c → (next m c .base ≡ m .base) × ((y : ℕ) → y ≢ runner m → last-opened (next m c) y ≡ last-opened m y)
     go (kept e f w) = rw e (refl, λ y n. refl)

@@ -19,42 +19,33 @@ use Rattle.rules.proofs.Kept.{release-sound, leave-sound}
 use Rattle.rules.proofs.SetUp.{create-sound, declare-sound, timed-sound}
 use Rattle.rules.proofs.Accepted.{Allowed, allowed}
 
--- Release and way out leave the clock alone, and a started machine started.
-release-clock : (rel : Rel) (m : Machine) → release rel m .clock ≡ m .clock
+-- What release and way out leave alone: the bases, the clock, and whether the machine is started.
+abbrev pub Rest : Machine → Machine → Type 0
+Rest n m = (n .base ≡ m .base) × (n .clock ≡ m .clock) × (n .started ≡ m .started)
+
+pub release-rest : (rel : Rel) (m : Machine) → Rest (release rel m) m
 unfolding release
-release-clock none m = refl
-release-clock due m = refl
-release-clock (serve o n) m = refl
+release-rest none m = (refl, refl, refl)
+release-rest due m = (refl, refl, refl)
+release-rest (serve o n) m = (refl, refl, refl)
 
-leave-clock : (out : Out) (m : Machine) → leave out m .clock ≡ m .clock
+leave-rest : (out : Out) (m : Machine) → Rest (leave out m) m
 unfolding leave
-leave-clock same m = refl
-leave-clock (take o w) m = refl
-leave-clock yield m = refl
-leave-clock close m = refl
-leave-clock (sleep d) m = refl
-leave-clock (await o) m = refl
+leave-rest same m = (refl, refl, refl)
+leave-rest (take o w) m = (refl, refl, refl)
+leave-rest yield m = (refl, refl, refl)
+leave-rest close m = (refl, refl, refl)
+leave-rest (sleep d) m = (refl, refl, refl)
+leave-rest (await o) m = (refl, refl, refl)
 
-pub release-started : (rel : Rel) (m : Machine) → release rel m .started ≡ m .started
-unfolding release
-release-started none m = refl
-release-started due m = refl
-release-started (serve o n) m = refl
-
-pub leave-started : (out : Out) (m : Machine) → leave out m .started ≡ m .started
-unfolding leave
-leave-started same m = refl
-leave-started (take o w) m = refl
-leave-started yield m = refl
-leave-started close m = refl
-leave-started (sleep d) m = refl
-leave-started (await o) m = refl
-
-pub moved-clock : (out : Out) (rel : Rel) (m : Machine) → leave out (release rel m) .clock ≡ m .clock
-moved-clock out rel m = leave-clock out (release rel m) ∙ release-clock rel m
+pub moved-rest : (out : Out) (rel : Rel) (m : Machine) → Rest (leave out (release rel m)) m
+moved-rest out rel m =
+    let l = leave-rest out (release rel m) in
+    let r = release-rest rel m in
+    (l .0 ∙ r .0, l .1 ∙ r .1, l .2 ∙ r .2)
 
 pub moved-started : (out : Out) (rel : Rel) (m : Machine) → leave out (release rel m) .started ≡ m .started
-moved-started out rel m = leave-started out (release rel m) ∙ release-started rel m
+moved-started out rel m = moved-rest out rel m .2
 
 -- An allowed row leaves a sound state.
 pub carry-sound : (m : Machine) (s : Sound m) (e : Effect) → Allowed m e → Sound (carry m e)
@@ -65,9 +56,9 @@ carry-sound m s (declares o p) g = declare-sound m s o p g
 carry-sound m s begins g = timed-sound m s (m .clock) true (s .in-time .clock-fits) refl
 carry-sound m s (moves out rel n) g =
     let n₁ = release-sound m s (g .on) rel in
-    let n₂ = leave-sound (release rel m) n₁ (release-started rel m ∙ g .on) out (g .leaves) in
+    let n₂ = leave-sound (release rel m) n₁ (release-rest rel m .2 ∙ g .on) out (g .leaves) in
     timed-sound (leave out (release rel m)) n₂ (leave out (release rel m) .clock + n) (leave out (release rel m) .started)
-    (rw (moved-clock out rel m) (g .in-time)) (moved-started out rel m ∙ g .on)
+    (rw (moved-rest out rel m .1) (g .in-time)) (moved-started out rel m ∙ g .on)
 
 -- The two ways of a step.
 pub data Step (m : Machine) (c : Command) : Type 0 where

@@ -1,7 +1,7 @@
 -- Lines and tables: the lists that a machine is made of, and what is asked of them.
 use Prim.Native.Nat.{ℕ, zero, suc, _+_}
 use mathlib.Core.Bool.{Bool, true, false, cond, _&&_, _||_}
-use mathlib.Core.List.{List, [], _∷_}
+use mathlib.Core.List.{List, [], _∷_, _++_}
 use lib.Dec.{eqb, leb, ltb}
 use lib.ListN.{getD}
 
@@ -48,6 +48,11 @@ module _ {A : Type 0} where
   neighbours f [] = true
   neighbours f (x ∷ []) = true
   neighbours f (x ∷ (y ∷ l)) = f x y && neighbours f (y ∷ l)
+
+  -- lists, one behind another
+  abbrev pub joined : List (List A) → List A
+  joined [] = []
+  joined (l ∷ ls) = l ++ joined ls
 
 -- each of the tests is passed
 abbrev pub all-of : List Bool → Bool

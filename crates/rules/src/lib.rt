@@ -1,13 +1,20 @@
-// Document 01's machine stands in specs/, as definitions. Here are only the kinds of command: definitions and code go by the same type.
+// Document 01's machine stands in specs/, as definitions. Here are only the kinds of command: definitions and code go
+// by the same type.
 
-// The end of a body: the way in which the object is held (1 for a procedure or function, 2 for an entry), and whether the command gives a
-// barrier, by which a task that waits is served.
+// The ways in which an object is held: for a procedure or function, and for an entry. (0 where none is held.)
+pub const FOR_OPEN: u8 = 1;
+
+pub const FOR_ENTRY: u8 = 2;
+
+// The end of a body: the way in which the object is held, and whether the command gives a barrier, by which a task
+// that waits is served.
 pub struct End {
     pub way: u8,
     pub serves: bool,
 }
 
-// What an op asks for, whatever its number is. NoKind is of what is no op. Opening begins a procedure or function, Entering an entry.
+// What an op asks for, whatever its number is. NoKind is of what is no op. Opening begins a procedure or function,
+// Entering an entry.
 pub enum Kind {
     NoKind,
     Creating,

@@ -14,6 +14,7 @@ use Rattle.rules.specs.Run.{next, answer}
 use Rattle.rules.proofs.Step.{fresh-sound}
 use Rattle.rules.proofs.Tests.{both-true}
 use Rattle.rules.proofs.Words.{All}
+use Rattle.rules.specs.Line.{joined}
 use Rattle.kernel.specs.declared.Kernel.{Kernel}
 use Rattle.kernel.specs.View.{view, encode}
 use Rattle.kernel.specs.Public.{isSound, stepOf, stepped}
@@ -25,7 +26,6 @@ use Rattle.text.specs.declared.Spoken.{Spoken}
 use Rattle.text.specs.declared.Row.{Row}
 use Rattle.text.specs.Commands.{command-of}
 use Rattle.text.specs.FirstLine.{first-line-of}
-use Rattle.text.specs.Lines.{joined}
 use Rattle.text.specs.Printed.{draw-line}
 use Rattle.session.specs.CarriedOut.{following, asked, state-behind, answer-to, row-for, state-after}
 use Rattle.session_stage.specs.Stage.{starts, profile-of}

@@ -14,7 +14,7 @@ use denote.Ref.{now}
 use Rattle.one_answer.proofs.Law.{OneAnswer, OneEnd, one, both}
 use Rattle.session.proofs.Ends.{same-end}
 use Rattle.session_draw.specs.declared.Read.{Read}
-use Rattle.session_draw.specs.declared.Drew.{Drew}
+use Rattle.session_draw.specs.declared.Printed.{Printed}
 use Rattle.session_draw.proofs.begin
 use Rattle.session_draw.proofs.header
 use Rattle.session_draw.proofs.feed
@@ -31,8 +31,8 @@ module _ {M : Type 1} (𝓤 : URA M) (H : Heap 𝓤) (A : Atoms 𝓤) (mem : Mem
   pub feed-single : OneEnd 𝓤 feed.ended (feed.clauses 𝓤 H A mem run) (Read × List ℕ) (λ κs r e. (r, now (e .1 .1 .0)))
   feed-single κs a g r s d e = both 𝓤 _ _ _ same-end
 
-  pub finish-single : OneEnd 𝓤 finish.ended (finish.clauses 𝓤 H A mem run) (Drew × List ℕ) (λ κs r e. (r, now (e .1 .0)))
+  pub finish-single : OneEnd 𝓤 finish.ended (finish.clauses 𝓤 H A mem run) (Printed × List ℕ) (λ κs r e. (r, now (e .1 .0)))
   finish-single κs a g r s d e = both 𝓤 _ _ _ same-end
 
-  pub draw-some-single : OneEnd 𝓤 draw_some.ended (draw_some.clauses 𝓤 H A mem run) (Drew × List ℕ) (λ κs r e. (r, now (e .1 .1 .0)))
+  pub draw-some-single : OneEnd 𝓤 draw_some.ended (draw_some.clauses 𝓤 H A mem run) (Printed × List ℕ) (λ κs r e. (r, now (e .1 .1 .0)))
   draw-some-single κs a g r s d e = both 𝓤 _ _ _ same-end

@@ -22,14 +22,15 @@ use Rattle.text.specs.Commands.{command-of}
 use Rattle.text.specs.FirstLine.{first-line-of}
 use Rattle.text.specs.Lines.{lines, cuts, holds-after, held-bytes, nothing-held}
 use Rattle.text.specs.Printed.{draw-header, draw-line, header-room, draw-room}
-use Rattle.session_stage.specs.declared.Draw.{Draw}
+use Rattle.session_stage.specs.declared.DrawRun.{DrawRun}
 use Rattle.session_stage.specs.declared.Course.{Course}
 use Rattle.session_draw.specs.declared.Reader.{Reader}
 use Rattle.session_draw.specs.declared.Read.{Read}
-use Rattle.session_draw.specs.declared.Drew.{Drew}
+use Rattle.session_draw.specs.declared.Printed.{Printed}
 use Rattle.session_draw.specs.declared.Through.{Through}
 use Rattle.session_draw.specs.declared.Lot.{Lot}
-use Rattle.session_stage.specs.Stage.{Moved, zeros, starts, profile-of, not-moved, moved, ended, as-draw}
+use Rattle.session_stage.specs.Stage.{first-line, drawing, Moved, zeros, starts, profile-of, not-moved, moved, ended}
+use Rattle.session_stage.specs.Stage.{as-run}
 use Rattle.session.specs.CarriedOut.{following, state-behind, row-for}
 
 -- ---- of all its input
@@ -68,14 +69,14 @@ first-text (l ∷ ls) =
 unfoldable pub draw-text : List ℕ → List ℕ
 draw-text input = draw-header ++ first-text (lines input)
 
--- ---- in pieces. A draw stands at its first line (0), its setup lines (1), its draws (2), or is over (3).
+-- ---- in pieces
 
 unfoldable pub at-first : Reader
 at-first =
     record {
-      draw =
+      run =
           record {
-            stage = 0;
+            stage = first-line;
             kernel = encode fresh;
             n = 0;
             seed = 0;
@@ -86,13 +87,13 @@ at-first =
     }
 
 -- one draw
-unfoldable pub drawn-next : Draw → Moved
+unfoldable pub drawn-next : DrawRun → Moved
 drawn-next d =
-    cond (eqb (d .stage) 2 && leb 1 (d .left))
+    cond (eqb (d .stage) drawing && leb 1 (d .left))
     (record {
-      draw =
+      run =
           record {
-            stage = 2;
+            stage = drawing;
             kernel = state-behind (d .kernel) (spoken (drawnOf (d .kernel) (d .seed) (d .profile)));
             n = following (d .n);
             seed = drawnOf (d .kernel) (d .seed) (d .profile) .seed;
@@ -112,33 +113,33 @@ abbrev pub text-of : Moved → List ℕ
 text-of h = shown-text (h .shown) (h .row)
 
 -- for lines; and for some draws
-unfoldable pub lines-text : Draw → List (List ℕ) → List ℕ
+unfoldable pub lines-text : DrawRun → List (List ℕ) → List ℕ
 lines-text d [] = []
-lines-text d (l ∷ ls) = text-of (moved d l) ++ lines-text (moved d l .draw) ls
+lines-text d (l ∷ ls) = text-of (moved d l) ++ lines-text (moved d l .run) ls
 
-unfoldable pub lines-behind : Draw → List (List ℕ) → Draw
+unfoldable pub lines-behind : DrawRun → List (List ℕ) → DrawRun
 lines-behind d [] = d
-lines-behind d (l ∷ ls) = lines-behind (moved d l .draw) ls
+lines-behind d (l ∷ ls) = lines-behind (moved d l .run) ls
 
-unfoldable pub some-text : ℕ → Draw → List ℕ
+unfoldable pub some-text : ℕ → DrawRun → List ℕ
 some-text zero d = []
-some-text (suc m) d = text-of (drawn-next d) ++ some-text m (drawn-next d .draw)
+some-text (suc m) d = text-of (drawn-next d) ++ some-text m (drawn-next d .run)
 
-unfoldable pub some-behind : ℕ → Draw → Draw
+unfoldable pub some-behind : ℕ → DrawRun → DrawRun
 some-behind zero d = d
-some-behind (suc m) d = some-behind m (drawn-next d .draw)
+some-behind (suc m) d = some-behind m (drawn-next d .run)
 
 -- for a piece of input: where a buffer has no room for a line for each byte of the piece and one more, nothing is done
 abbrev pub lines-in : Reader → List ℕ → List (List ℕ)
 lines-in r piece = cuts (suc (length piece)) (r .held) piece 0
 
 unfoldable pub piece-text : Reader → List ℕ → List ℕ
-piece-text r piece = lines-text (r .draw) (lines-in r piece)
+piece-text r piece = lines-text (r .run) (lines-in r piece)
 
 unfoldable pub piece-behind : Reader → List ℕ → Reader
 piece-behind r piece =
     record {
-      draw = lines-behind (r .draw) (lines-in r piece);
+      run = lines-behind (r .run) (lines-in r piece);
       held = holds-after (suc (length piece)) (r .held) piece 0;
     }
 
@@ -157,50 +158,50 @@ fed-out r piece out = cond (roomy (suc (length piece)) out) (sets out 0 (piece-t
 -- for the end of the input: a last line without a line end counts if it has a byte; where no start was accepted, a
 -- line of zeros
 unfoldable pub last-moved : Reader → Moved
-last-moved r = cond (empty (held-bytes (r .held))) (not-moved (r .draw)) (moved (r .draw) (held-bytes (r .held)))
+last-moved r = cond (empty (held-bytes (r .held))) (not-moved (r .run)) (moved (r .run) (held-bytes (r .held)))
 
 unfoldable pub end-text : Reader → List ℕ
-end-text r = text-of (last-moved r) ++ text-of (ended (last-moved r .draw))
+end-text r = text-of (last-moved r) ++ text-of (ended (last-moved r .run))
 
-unfoldable pub end-behind : Reader → Draw
-end-behind r = ended (last-moved r .draw) .draw
+unfoldable pub end-behind : Reader → DrawRun
+end-behind r = ended (last-moved r .run) .run
 
-abbrev pub finished : Reader → List ℕ → Drew
+abbrev pub finished : Reader → List ℕ → Printed
 finished r out =
     cond (roomy 2 out)
-    (record { draw = end-behind r; at = length (end-text r) })
-    (record { draw = r .draw; at = 0 })
+    (record { run = end-behind r; at = length (end-text r) })
+    (record { run = r .run; at = 0 })
 
 abbrev pub finished-out : Reader → List ℕ → List ℕ
 finished-out r out = cond (roomy 2 out) (sets out 0 (end-text r)) out
 
 -- for some draws
-abbrev pub drew : Draw → ℕ → List ℕ → Drew
-drew d most out =
+abbrev pub some-drawn : DrawRun → ℕ → List ℕ → Printed
+some-drawn d most out =
     cond (roomy most out)
-    (record { draw = some-behind most d; at = length (some-text most d) })
-    (record { draw = d; at = 0 })
+    (record { run = some-behind most d; at = length (some-text most d) })
+    (record { run = d; at = 0 })
 
-abbrev pub drew-out : Draw → ℕ → List ℕ → List ℕ
-drew-out d most out = cond (roomy most out) (sets out 0 (some-text most d)) out
+abbrev pub some-drawn-out : DrawRun → ℕ → List ℕ → List ℕ
+some-drawn-out d most out = cond (roomy most out) (sets out 0 (some-text most d)) out
 
--- ---- of a draw whose tables are lent: they are its state, and what is passed beside them is its course
+-- ---- of a run whose tables are lent: they are its state, and what is passed beside them is its course
 
 abbrev pub as-reader : Kernel → Course → Held → Reader
-as-reader k c h = record { draw = as-draw k c; held = h }
+as-reader k c h = record { run = as-run k c; held = h }
 
 abbrev pub as-read : Kernel → Through → Read
 as-read k t = record { reader = as-reader k (t .course) (t .kept); at = t .at }
 
-abbrev pub as-drew : Kernel → Lot → Drew
-as-drew k t = record { draw = as-draw k (t .course); at = t .at }
+abbrev pub as-printed : Kernel → Lot → Printed
+as-printed k t = record { run = as-run k (t .course); at = t .at }
 
 -- what is answered and left in the buffer, of a piece and of some draws
 abbrev pub Feeds : Reader → List ℕ → List ℕ → Read → List ℕ → Type 0
 Feeds r piece out x left = (x ≡ fed r piece out) × (left ≡ fed-out r piece out) × In-front (x .at) left
 
-abbrev pub Draws : Draw → ℕ → List ℕ → Drew → List ℕ → Type 0
-Draws d most out x left = (x ≡ drew d most out) × (left ≡ drew-out d most out) × In-front (x .at) left
+abbrev pub DrawsSome : DrawRun → ℕ → List ℕ → Printed → List ℕ → Type 0
+DrawsSome d most out x left = (x ≡ some-drawn d most out) × (left ≡ some-drawn-out d most out) × In-front (x .at) left
 
 abbrev pub headed : List ℕ → ℕ
 headed out = place-after header-room out 0 draw-header

@@ -5,7 +5,7 @@ ghost use lib.ListN.{length};
 ghost use Rattle.kernel.specs.declared.Kernel.{Kernel};
 ghost use Rattle.decimal.specs.Buffer.{In-front, contents-after, place-after};
 ghost use Rattle.session_stage.specs.Stage as stage;
-ghost use Rattle.session_draw.specs.Draw as draw;
+ghost use Rattle.session_draw.specs.Draw as program;
 ghost use Rattle.kernel.specs.Step.{tables};
 ghost use Rattle.text.specs.Lines.{held-bytes};
 ghost use Rattle.text.specs.Printed.{draw-room};
@@ -17,8 +17,11 @@ use session::carry_out;
 use session::following;
 use session::row_of;
 use session_stage::Course;
-use session_stage::Draw;
+use session_stage::DRAWING;
+use session_stage::DrawRun;
+use session_stage::FIRST_LINE;
 use session_stage::Note;
+use session_stage::SETTING_UP;
 use session_stage::end;
 use session_stage::not_moved;
 use session_stage::opened;
@@ -33,32 +36,32 @@ use text_split::held_first_line;
 use text_split::held_none;
 use text_split::next_line;
 
-// A draw that reads its input: with what is held of a line that has begun.
+// A run that reads its input: with what is held of a line that has begun.
 pub struct Reader {
-    pub draw: Draw,
+    pub run: DrawRun,
     pub held: Held,
 }
 
-// What stands behind a piece of input, or some draws, and how many bytes were printed.
+// The reader behind a piece of input, and the run behind its end or some draws; and how many bytes were printed.
 pub struct Read {
     pub reader: Reader,
     pub at: usize,
 }
 
-pub struct Drew {
-    pub draw: Draw,
+pub struct Printed {
+    pub run: DrawRun,
     pub at: usize,
 }
 
 pub fn begin() -> Reader
-    ensures { λ r. ⌜ r ≡ draw.at-first ⌝ }
+    ensures { λ r. ⌜ r ≡ program.at-first ⌝ }
 {
     let profile = Profile {
         span: 0,
         weights: [0u32; 8],
     };
-    let d = Draw {
-        stage: 0,
+    let d = DrawRun {
+        stage: FIRST_LINE,
         kernel: Kernel::fresh(),
         n: 0,
         seed: 0,
@@ -66,14 +69,14 @@ pub fn begin() -> Reader
         left: 0,
     };
     Reader {
-        draw: d,
+        run: d,
         held: held_none(),
     }
 }
 
-// The course of a draw; and a draw of its parts.
-fn course_of(d: Draw) -> Course
-    ensures { λ r. ⌜ stage.as-draw (d .kernel) r ≡ d ⌝ }
+// The course of a run; and a run of its parts.
+fn course_of(d: DrawRun) -> Course
+    ensures { λ r. ⌜ stage.as-run (d .kernel) r ≡ d ⌝ }
 {
     let profile = d.profile;
     Course {
@@ -85,11 +88,11 @@ fn course_of(d: Draw) -> Course
     }
 }
 
-fn draw_of(kernel: Kernel, c: Course) -> Draw
-    ensures { λ r. ⌜ r ≡ stage.as-draw kernel c ⌝ }
+fn run_of(kernel: Kernel, c: Course) -> DrawRun
+    ensures { λ r. ⌜ r ≡ stage.as-run kernel c ⌝ }
 {
     let profile = c.profile;
-    Draw {
+    DrawRun {
         stage: c.stage,
         kernel,
         n: c.n,
@@ -116,15 +119,15 @@ fn take_line(
 ) -> Note
     ensures { λ r. ⌜ stage.as-moved (tables (now (base .exit)) (now (ready .exit)) (now (delayed .exit))
         (now (held .exit)) (now (way .exit)) (now (until .exit)) (now (ceiling .exit)) (now (waiter .exit))
-        (now (clock .exit)) (now (started .exit))) r ≡ stage.moved (stage.as-draw (tables (now (base .entry))
+        (now (clock .exit)) (now (started .exit))) r ≡ stage.moved (stage.as-run (tables (now (base .entry))
         (now (ready .entry)) (now (delayed .entry)) (now (held .entry)) (now (way .entry)) (now (until .entry))
         (now (ceiling .entry)) (now (waiter .entry)) (now (clock .entry)) (now (started .entry))) c)
         (held-bytes line) ⌝ }
 {
-    if c.stage == 0 {
+    if c.stage == FIRST_LINE {
         return opened(c, held_first_line(line));
     }
-    if c.stage != 1 {
+    if c.stage != SETTING_UP {
         return not_moved(c);
     }
     let n = following(c.n);
@@ -148,7 +151,7 @@ fn take_line(
 
 // What is drawn, as a line would say it.
 fn spoken(x: Drawn) -> Spoken
-    ensures { λ r. ⌜ r ≡ draw.spoken x ⌝ }
+    ensures { λ r. ⌜ r ≡ program.spoken x ⌝ }
 {
     let c = x.command;
     Spoken {
@@ -161,8 +164,8 @@ fn spoken(x: Drawn) -> Spoken
 }
 
 fn put_shown(out: &mut [u8], at: usize, shown: bool, row: Row) -> usize
-    ensures { λ r. ⌜ (r ≡ place-after draw-room (now (out .entry)) at (draw.shown-text shown row))
-        × (now (out .exit) ≡ contents-after draw-room (now (out .entry)) at (draw.shown-text shown row)) ⌝ }
+    ensures { λ r. ⌜ (r ≡ place-after draw-room (now (out .entry)) at (program.shown-text shown row))
+        × (now (out .exit) ≡ contents-after draw-room (now (out .entry)) at (program.shown-text shown row)) ⌝ }
 {
     if shown {
         return put_draw_line(out, at, row);
@@ -171,7 +174,7 @@ fn put_shown(out: &mut [u8], at: usize, shown: bool, row: Row) -> usize
 }
 
 pub fn header(out: &mut [u8]) -> usize
-    ensures { λ r. ⌜ (r ≡ draw.headed (now (out .entry))) × (now (out .exit) ≡ draw.headed-out (now (out .entry)))
+    ensures { λ r. ⌜ (r ≡ program.headed (now (out .entry))) × (now (out .exit) ≡ program.headed-out (now (out .entry)))
         × In-front r (now (out .exit)) ⌝ }
 {
     put_draw_header(out, 0)
@@ -206,10 +209,10 @@ fn take_lines(
     piece: &[u8],
     out: &mut [u8],
 ) -> Through
-    ensures { λ r. ⌜ draw.Feeds (draw.as-reader (tables (now (base .entry)) (now (ready .entry))
+    ensures { λ r. ⌜ program.Feeds (program.as-reader (tables (now (base .entry)) (now (ready .entry))
         (now (delayed .entry)) (now (held .entry)) (now (way .entry)) (now (until .entry)) (now (ceiling .entry))
         (now (waiter .entry)) (now (clock .entry)) (now (started .entry))) course kept) (now (piece .entry))
-        (now (out .entry)) (draw.as-read (tables (now (base .exit)) (now (ready .exit)) (now (delayed .exit))
+        (now (out .entry)) (program.as-read (tables (now (base .exit)) (now (ready .exit)) (now (delayed .exit))
         (now (held .exit)) (now (way .exit)) (now (until .exit)) (now (ceiling .exit)) (now (waiter .exit))
         (now (clock .exit)) (now (started .exit))) r) (now (out .exit)) ⌝ }
 {
@@ -254,12 +257,12 @@ fn take_lines(
 impl Through {
     // The reader behind a piece, from its parts.
     fn behind(self, kernel: Kernel) -> Read
-        ensures { λ r. ⌜ r ≡ draw.as-read kernel self ⌝ }
+        ensures { λ r. ⌜ r ≡ program.as-read kernel self ⌝ }
     {
         let held = self.kept;
-        let d = draw_of(kernel, self.course);
+        let d = run_of(kernel, self.course);
         Read {
-            reader: Reader { draw: d, held },
+            reader: Reader { run: d, held },
             at: self.at,
         }
     }
@@ -267,20 +270,20 @@ impl Through {
 
 // A piece of input. Where out has no room for a line for each byte of the piece and one more, nothing is done.
 pub fn feed(r: Reader, piece: &[u8], out: &mut [u8]) -> Read
-    ensures { λ x. ⌜ (x ≡ draw.fed r (now (piece .entry)) (now (out .entry)))
-        × (now (out .exit) ≡ draw.fed-out r (now (piece .entry)) (now (out .entry)))
+    ensures { λ x. ⌜ (x ≡ program.fed r (now (piece .entry)) (now (out .entry)))
+        × (now (out .exit) ≡ program.fed-out r (now (piece .entry)) (now (out .entry)))
         × In-front (x .at) (now (out .exit)) ⌝ }
 {
-    let mut base = r.draw.kernel.base;
-    let mut ready = r.draw.kernel.ready;
-    let mut delayed = r.draw.kernel.delayed;
-    let mut held = r.draw.kernel.held;
-    let mut way = r.draw.kernel.way;
-    let mut until = r.draw.kernel.until;
-    let mut ceiling = r.draw.kernel.ceiling;
-    let mut waiter = r.draw.kernel.waiter;
-    let mut clock = r.draw.kernel.clock;
-    let mut started = r.draw.kernel.started;
+    let mut base = r.run.kernel.base;
+    let mut ready = r.run.kernel.ready;
+    let mut delayed = r.run.kernel.delayed;
+    let mut held = r.run.kernel.held;
+    let mut way = r.run.kernel.way;
+    let mut until = r.run.kernel.until;
+    let mut ceiling = r.run.kernel.ceiling;
+    let mut waiter = r.run.kernel.waiter;
+    let mut clock = r.run.kernel.clock;
+    let mut started = r.run.kernel.started;
     let t = take_lines(
         &mut base,
         &mut ready,
@@ -292,7 +295,7 @@ pub fn feed(r: Reader, piece: &[u8], out: &mut [u8]) -> Read
         &mut waiter,
         &mut clock,
         &mut started,
-        course_of(r.draw),
+        course_of(r.run),
         r.held,
         piece,
         out,
@@ -314,9 +317,9 @@ pub fn feed(r: Reader, piece: &[u8], out: &mut [u8]) -> Read
 // A last line without a line end counts if it has a byte: its line end is fed.
 fn last_line(r: Reader, out: &mut [u8]) -> Read
     requires { ⌜ 384 ≤ length (now out) ⌝ }
-    ensures { λ x. ⌜ (x .reader .draw ≡ draw.last-moved r .draw)
-        × (x .at ≡ place-after draw-room (now (out .entry)) 0 (draw.text-of (draw.last-moved r)))
-        × (now (out .exit) ≡ contents-after draw-room (now (out .entry)) 0 (draw.text-of (draw.last-moved r))) ⌝ }
+    ensures { λ x. ⌜ (x .reader .run ≡ program.last-moved r .run)
+        × (x .at ≡ place-after draw-room (now (out .entry)) 0 (program.text-of (program.last-moved r)))
+        × (now (out .exit) ≡ contents-after draw-room (now (out .entry)) 0 (program.text-of (program.last-moved r))) ⌝ }
 {
     let held = r.held;
     if held.count == 0 {
@@ -326,22 +329,22 @@ fn last_line(r: Reader, out: &mut [u8]) -> Read
 }
 
 // The end of the input: at most two lines.
-pub fn finish(r: Reader, out: &mut [u8]) -> Drew
-    ensures { λ x. ⌜ (x ≡ draw.finished r (now (out .entry)))
-        × (now (out .exit) ≡ draw.finished-out r (now (out .entry))) × In-front (x .at) (now (out .exit)) ⌝ }
+pub fn finish(r: Reader, out: &mut [u8]) -> Printed
+    ensures { λ x. ⌜ (x ≡ program.finished r (now (out .entry)))
+        × (now (out .exit) ≡ program.finished-out r (now (out .entry))) × In-front (x .at) (now (out .exit)) ⌝ }
 {
     if out.len() < 384 {
-        let d = r.draw;
-        return Drew { draw: d, at: 0 };
+        let d = r.run;
+        return Printed { run: d, at: 0 };
     }
     let last = last_line(r, out);
     let reader = last.reader;
-    let d = reader.draw;
+    let d = reader.run;
     let e = end(course_of(d));
     let at = put_shown(out, last.at, e.shown, e.row);
     let k = d.kernel;
-    Drew {
-        draw: draw_of(k, e.course),
+    Printed {
+        run: run_of(k, e.course),
         at,
     }
 }
@@ -349,11 +352,17 @@ pub fn finish(r: Reader, out: &mut [u8]) -> Drew
 // The course behind a draw.
 fn past(c: Course, n: u64, seed: u32) -> Course
     requires { ⌜ 1 ≤ c .left ⌝ }
-    ensures { λ r. ⌜ r ≡ record { stage = 2; n = n; seed = seed; profile = c .profile; left = c .left - 1 } ⌝ }
+    ensures { λ r. ⌜ r ≡ record {
+      stage = stage.drawing;
+      n = n;
+      seed = seed;
+      profile = c .profile;
+      left = c .left - 1;
+    } ⌝ }
 {
     let profile = c.profile;
     Course {
-        stage: 2,
+        stage: DRAWING,
         n,
         seed,
         profile,
@@ -367,11 +376,11 @@ struct Lot {
     at: usize,
 }
 
-fn drew_of(kernel: Kernel, t: Lot) -> Drew
-    ensures { λ r. ⌜ r ≡ draw.as-drew kernel t ⌝ }
+fn printed_of(kernel: Kernel, t: Lot) -> Printed
+    ensures { λ r. ⌜ r ≡ program.as-printed kernel t ⌝ }
 {
-    Drew {
-        draw: draw_of(kernel, t.course),
+    Printed {
+        run: run_of(kernel, t.course),
         at: t.at,
     }
 }
@@ -392,10 +401,10 @@ fn draw_through(
     most: usize,
     out: &mut [u8],
 ) -> Lot
-    ensures { λ r. ⌜ draw.Draws (stage.as-draw (tables (now (base .entry)) (now (ready .entry))
+    ensures { λ r. ⌜ program.DrawsSome (stage.as-run (tables (now (base .entry)) (now (ready .entry))
         (now (delayed .entry)) (now (held .entry)) (now (way .entry)) (now (until .entry)) (now (ceiling .entry))
         (now (waiter .entry)) (now (clock .entry)) (now (started .entry))) course) most (now (out .entry))
-        (draw.as-drew (tables (now (base .exit)) (now (ready .exit)) (now (delayed .exit)) (now (held .exit))
+        (program.as-printed (tables (now (base .exit)) (now (ready .exit)) (now (delayed .exit)) (now (held .exit))
         (now (way .exit)) (now (until .exit)) (now (ceiling .exit)) (now (waiter .exit)) (now (clock .exit))
         (now (started .exit))) r) (now (out .exit)) ⌝ }
 {
@@ -408,7 +417,7 @@ fn draw_through(
     }
     let mut turns = most;
     while turns > 0 {
-        if (course.stage != 2) | (course.left == 0) {
+        if (course.stage != DRAWING) | (course.left == 0) {
             return Lot { course, at };
         }
         let x = draw_and_step(
@@ -435,9 +444,9 @@ fn draw_through(
 }
 
 // Some draws. Where out has no room for a line for each, nothing is done.
-pub fn draw_some(d: Draw, most: usize, out: &mut [u8]) -> Drew
-    ensures { λ x. ⌜ (x ≡ draw.drew d most (now (out .entry)))
-        × (now (out .exit) ≡ draw.drew-out d most (now (out .entry))) × In-front (x .at) (now (out .exit)) ⌝ }
+pub fn draw_some(d: DrawRun, most: usize, out: &mut [u8]) -> Printed
+    ensures { λ x. ⌜ (x ≡ program.some-drawn d most (now (out .entry)))
+        × (now (out .exit) ≡ program.some-drawn-out d most (now (out .entry))) × In-front (x .at) (now (out .exit)) ⌝ }
 {
     let mut base = d.kernel.base;
     let mut ready = d.kernel.ready;
@@ -476,5 +485,5 @@ pub fn draw_some(d: Draw, most: usize, out: &mut [u8]) -> Drew
         clock,
         started,
     };
-    drew_of(kernel, t)
+    printed_of(kernel, t)
 }

@@ -23,7 +23,11 @@ use Rattle.session_stage.proofs.end
 -- A note without the state.
 note-of : Moved → Note
 note-of h =
-    record { course = record { stage = h .draw .stage; n = h .draw .n; seed = h .draw .seed; profile = h .draw .profile; left = h .draw .left }; shown = h .shown; row = h .row }
+    record {
+      course = record { stage = h .run .stage; n = h .run .n; seed = h .run .seed; profile = h .run .profile; left = h .run .left };
+      shown = h .shown;
+      row = h .row;
+    }
 
 same-note : {x : Kernel → Moved} {r s : Note} → ((k : Kernel) → as-moved k r ≡ x k) → ((k : Kernel) → as-moved k s ≡ x k) → r ≡ s
 unfolding note-of

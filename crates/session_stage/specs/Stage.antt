@@ -1,5 +1,5 @@
--- Where a draw stands, and how a line of its input moves it: its first line, its setup lines, and the end of the
--- input. A draw stands at its first line (0), its setup lines (1), its draws (2), or is over (3).
+-- Where a run of the program draw stands, and how a line of its input moves it: its first line, its setup lines, and
+-- the end of the input.
 use Prim.Native.Nat.{ℕ}
 use mathlib.Core.Bool.{Bool, true, false, cond, _&&_}
 use mathlib.Core.List.{List}
@@ -11,10 +11,23 @@ use Rattle.text.specs.declared.FirstLine.{FirstLine}
 use Rattle.text.specs.declared.Row.{Row}
 use Rattle.text.specs.Commands.{command-of}
 use Rattle.text.specs.FirstLine.{first-line-of}
-use Rattle.session_stage.specs.declared.Draw.{Draw}
+use Rattle.session_stage.specs.declared.DrawRun.{DrawRun}
 use Rattle.session_stage.specs.declared.Course.{Course}
 use Rattle.session_stage.specs.declared.Note.{Note}
 use Rattle.session.specs.CarriedOut.{following, state-behind, row-for}
+
+-- The stages: at its first line, at its setup lines, at its draws, and over.
+abbrev pub first-line : ℕ
+first-line = 0
+
+abbrev pub setting-up : ℕ
+setting-up = 1
+
+abbrev pub drawing : ℕ
+drawing = 2
+
+abbrev pub over : ℕ
+over = 3
 
 -- a line of zeros with a code
 abbrev pub zeros : ℕ → Row
@@ -28,32 +41,32 @@ starts r = eqb (r .op) 3 && eqb (r .code) 0
 abbrev pub profile-of : FirstLine → Profile
 profile-of f = record { span = f .span; weights = f .weights }
 
--- the draw behind a line or a draw, and the row that is printed for it, where it is shown
+-- the run behind a line or a draw, and the row that is printed for it, where it is shown
 pub record Moved : Type 0 where
-  pub draw : Draw
+  pub run : DrawRun
   pub shown : Bool
   pub row : Row
 
--- a line of zeros, and the draw is over; nothing, and the draw is as it was
-unfoldable pub over-with : ℕ → Draw → Moved
+-- a line of zeros, and the run is over; nothing, and the run is as it was
+unfoldable pub over-with : ℕ → DrawRun → Moved
 over-with code d =
     record {
-      draw = record { stage = 3; kernel = d .kernel; n = d .n; seed = d .seed; profile = d .profile; left = 0 };
+      run = record { stage = over; kernel = d .kernel; n = d .n; seed = d .seed; profile = d .profile; left = 0 };
       shown = true;
       row = zeros code;
     }
 
-unfoldable pub not-moved : Draw → Moved
-not-moved d = record { draw = d; shown = false; row = zeros 0 }
+unfoldable pub not-moved : DrawRun → Moved
+not-moved d = record { run = d; shown = false; row = zeros 0 }
 
 -- the first line, and a setup line
-unfoldable pub opened : Draw → FirstLine → Moved
+unfoldable pub opened : DrawRun → FirstLine → Moved
 opened d f =
     cond (eqb (f .code) 0)
     (record {
-      draw =
+      run =
           record {
-            stage = 1;
+            stage = setting-up;
             kernel = d .kernel;
             n = d .n;
             seed = f .seed;
@@ -65,12 +78,12 @@ opened d f =
     })
     (over-with (f .code) d)
 
-unfoldable pub set-up : Draw → Spoken → Moved
+unfoldable pub set-up : DrawRun → Spoken → Moved
 set-up d s =
     record {
-      draw =
+      run =
           record {
-            stage = cond (starts (row-for (d .kernel) (following (d .n)) s)) 2 1;
+            stage = cond (starts (row-for (d .kernel) (following (d .n)) s)) drawing setting-up;
             kernel = state-behind (d .kernel) s;
             n = following (d .n);
             seed = d .seed;
@@ -82,30 +95,31 @@ set-up d s =
     }
 
 -- a line, whatever the stage; and the end of the input
-unfoldable pub moved : Draw → List ℕ → Moved
+unfoldable pub moved : DrawRun → List ℕ → Moved
 moved d l =
-    cond (eqb (d .stage) 0)
+    cond (eqb (d .stage) first-line)
     (opened d (first-line-of l))
-    (cond (eqb (d .stage) 1) (set-up d (command-of l)) (not-moved d))
+    (cond (eqb (d .stage) setting-up) (set-up d (command-of l)) (not-moved d))
 
-unfoldable pub ended : Draw → Moved
-ended d = cond (eqb (d .stage) 0) (over-with 14 d) (cond (eqb (d .stage) 1) (over-with 2 d) (not-moved d))
+unfoldable pub ended : DrawRun → Moved
+ended d =
+    cond (eqb (d .stage) first-line) (over-with 14 d) (cond (eqb (d .stage) setting-up) (over-with 2 d) (not-moved d))
 
--- ---- of a draw whose tables are lent: they are its state, and what is passed beside them is its course
+-- ---- of a run whose tables are lent: they are its state, and what is passed beside them is its course
 
-abbrev pub as-draw : Kernel → Course → Draw
-as-draw k c = record { stage = c .stage; kernel = k; n = c .n; seed = c .seed; profile = c .profile; left = c .left }
+abbrev pub as-run : Kernel → Course → DrawRun
+as-run k c = record { stage = c .stage; kernel = k; n = c .n; seed = c .seed; profile = c .profile; left = c .left }
 
 abbrev pub as-moved : Kernel → Note → Moved
-as-moved k x = record { draw = as-draw k (x .course); shown = x .shown; row = x .row }
+as-moved k x = record { run = as-run k (x .course); shown = x .shown; row = x .row }
 
 -- a setup line behind which the tables are those of d, by its number and its row
-abbrev pub set-by : Draw → ℕ → Row → Moved
+abbrev pub set-by : DrawRun → ℕ → Row → Moved
 set-by d n row =
     record {
-      draw =
+      run =
           record {
-            stage = cond (starts row) 2 1;
+            stage = cond (starts row) drawing setting-up;
             kernel = d .kernel;
             n = n;
             seed = d .seed;

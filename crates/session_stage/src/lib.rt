@@ -1,4 +1,5 @@
-// Where a draw stands, and how a line of its input moves it. Nothing here touches the machine's tables.
+// Where a run of the program draw stands, and how a line of its input moves it. Nothing here touches the machine's
+// tables.
 ghost use mathlib.Core.Path.{_≡_};
 ghost use Rattle.kernel.specs.declared.Kernel.{Kernel};
 ghost use Rattle.session_stage.specs.Stage as stage;
@@ -7,9 +8,18 @@ use kernel::Kernel;
 use text::FirstLine;
 use text::Row;
 
-// Where a draw stands: at its first line (0), its setup lines (1), its draws (2), or over (3); the state; how many
-// lines were printed; the seed; the profile; and how many draws are left.
-pub struct Draw {
+// The stages of a run of the program draw: at its first line, at its setup lines, at its draws, and over.
+pub const FIRST_LINE: u8 = 0;
+
+pub const SETTING_UP: u8 = 1;
+
+pub const DRAWING: u8 = 2;
+
+pub const OVER: u8 = 3;
+
+// Where a run of the program draw stands: its stage; the state; how many lines were printed; the seed; the profile;
+// and how many draws are left.
+pub struct DrawRun {
     pub stage: u8,
     pub kernel: Kernel,
     pub n: u64,
@@ -18,7 +28,7 @@ pub struct Draw {
     pub left: u32,
 }
 
-// A draw beside its state, which is in tables that are lent.
+// The same beside the state, which is in tables that are lent.
 pub struct Course {
     pub stage: u8,
     pub n: u64,
@@ -52,11 +62,11 @@ fn zeros(code: u8) -> Row
 
 // A line of zeros, and the draw is over.
 fn over_with(code: u8, c: Course) -> Note
-    ensures { λ r. ⌜ ((k : Kernel) → stage.as-moved k r ≡ stage.over-with code (stage.as-draw k c)) ⌝ }
+    ensures { λ r. ⌜ ((k : Kernel) → stage.as-moved k r ≡ stage.over-with code (stage.as-run k c)) ⌝ }
 {
     let profile = c.profile;
     let over = Course {
-        stage: 3,
+        stage: OVER,
         n: c.n,
         seed: c.seed,
         profile,
@@ -70,7 +80,7 @@ fn over_with(code: u8, c: Course) -> Note
 }
 
 pub fn not_moved(c: Course) -> Note
-    ensures { λ r. ⌜ ((k : Kernel) → stage.as-moved k r ≡ stage.not-moved (stage.as-draw k c)) ⌝ }
+    ensures { λ r. ⌜ ((k : Kernel) → stage.as-moved k r ≡ stage.not-moved (stage.as-run k c)) ⌝ }
 {
     Note {
         course: c,
@@ -81,7 +91,7 @@ pub fn not_moved(c: Course) -> Note
 
 // The first line.
 pub fn opened(c: Course, f: FirstLine) -> Note
-    ensures { λ r. ⌜ ((k : Kernel) → stage.as-moved k r ≡ stage.opened (stage.as-draw k c) f) ⌝ }
+    ensures { λ r. ⌜ ((k : Kernel) → stage.as-moved k r ≡ stage.opened (stage.as-run k c) f) ⌝ }
 {
     if f.code != 0 {
         return over_with(f.code, c);
@@ -92,7 +102,7 @@ pub fn opened(c: Course, f: FirstLine) -> Note
         weights,
     };
     let ready = Course {
-        stage: 1,
+        stage: SETTING_UP,
         n: c.n,
         seed: f.seed,
         profile,
@@ -107,12 +117,12 @@ pub fn opened(c: Course, f: FirstLine) -> Note
 
 // A setup line of this number, by the row that is printed for it: an accepted start is the last.
 pub fn set_up(c: Course, n: u64, row: Row) -> Note
-    ensures { λ r. ⌜ ((k : Kernel) → stage.as-moved k r ≡ stage.set-by (stage.as-draw k c) n row) ⌝ }
+    ensures { λ r. ⌜ ((k : Kernel) → stage.as-moved k r ≡ stage.set-by (stage.as-run k c) n row) ⌝ }
 {
     let starts = (row.op == 3) & (row.code == 0);
     let profile = c.profile;
     let next = Course {
-        stage: kernel_line::choose(starts, 2, 1),
+        stage: numbers::choose(starts, DRAWING, SETTING_UP),
         n,
         seed: c.seed,
         profile,
@@ -127,12 +137,12 @@ pub fn set_up(c: Course, n: u64, row: Row) -> Note
 
 // The end of the input.
 pub fn end(c: Course) -> Note
-    ensures { λ r. ⌜ ((k : Kernel) → stage.as-moved k r ≡ stage.ended (stage.as-draw k c)) ⌝ }
+    ensures { λ r. ⌜ ((k : Kernel) → stage.as-moved k r ≡ stage.ended (stage.as-run k c)) ⌝ }
 {
-    if c.stage == 0 {
+    if c.stage == FIRST_LINE {
         return over_with(14, c);
     }
-    if c.stage == 1 {
+    if c.stage == SETTING_UP {
         return over_with(2, c);
     }
     not_moved(c)

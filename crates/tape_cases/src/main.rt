@@ -1,5 +1,7 @@
-// Runs the tape library over the cases in its data files 00, 01, .. up to the first that is missing, and writes each answer. docs/TAPE.md has the
-// form of a case; tools/tape_cases.py makes the files and, from document 01 alone, what this program must write.
+// Runs the tape library over the cases in its data files 00, 01, .. up to the first that is missing, and writes each
+// answer. docs/TAPE.md has the form of a case; tools/tape_cases.py makes the files and, from document 01 alone, what
+// this program must write.
+use numbers::wide;
 use tape::Read;
 use tape::Record;
 ghost use Prim.Native.Nat.{_-_, _≤_, _<_};
@@ -27,10 +29,6 @@ fn hex(p: &[u8]) {
         io::print_hex(libc::STDOUT_FILENO, wide(p[i]), 2);
         i += 1;
     }
-}
-
-fn wide(x: u8) -> u64 {
-    x as u64
 }
 
 fn byte(d: &[u8], i: usize) -> u8 {
@@ -103,8 +101,8 @@ fn show_part(part: &[u8], code: u8) {
     show_record(tape::record_of(part));
 }
 
-// Writes what a reader has answered: its place, its part and the code, its next place. Answers how many turns are left: none
-// where the place was kept.
+// Writes what a reader has answered: its place, its part and the code, its next place. Answers how many turns are left:
+// none where the place was kept.
 fn told(at: usize, part: &[u8], code: u8, next: usize, left: u32) -> u32
     ensures { λ r. ⌜ r ≤ left - 1 ⌝ }
 {

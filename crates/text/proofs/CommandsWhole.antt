@@ -6,13 +6,14 @@ use mathlib.Core.Bool.{Bool, true, false, cond}
 use mathlib.Core.Path.{_≡_, refl, ap, sym, _∙_}
 use mathlib.Core.List.{List, [], _∷_, _++_, map, map-append}
 use lib.ListN.{length, take, drop}
-use Rattle.rules.specs.Line.{empty}
+use Rattle.rules.specs.Line.{empty, joined}
 use Rattle.text.specs.declared.Held.{Held}
 use Rattle.text.specs.declared.Cut.{Cut}
 use Rattle.text.specs.declared.Spoken.{Spoken}
 use Rattle.text.specs.Words.{before, line-end}
 use Rattle.text.specs.Commands.{command-of, no-command}
-use Rattle.text.specs.Lines.{lines, kept, held-bytes, nothing-held, hold-more, end-from, cut-of, next-command-of, cuts, commands-in, last-piece, last-command, holds-after, lines-of-pieces, commands-of-pieces, joined}
+use Rattle.text.specs.Lines.{lines, kept, held-bytes, nothing-held, hold-more, end-from, cut-of, next-command-of, cuts, commands-in, last-piece}
+use Rattle.text.specs.Lines.{last-command, holds-after, lines-of-pieces, commands-of-pieces}
 use Rattle.text.proofs.Scan.{word-part}
 use Rattle.text.proofs.Kept.{kept-says}
 use Rattle.text.proofs.Holding.{cut-whole}

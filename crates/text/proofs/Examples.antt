@@ -6,7 +6,7 @@ use Rattle.text.specs.declared.Spoken.{Spoken}
 use Rattle.decimal.specs.Decimal.{shortest, value-from, number-of, decimal, decimal-in}
 use Rattle.text.specs.Words.{bytes, before, onward, same}
 use Rattle.text.specs.Commands.{named-from, op-named, decimal-next, operand, operand-unless, spoken-by, command-of, no-command}
-use Rattle.text.specs.FirstLine.{seed-of, text-next, decimals-next, settings-of, fair, judged, refused-with, first-line-of}
+use Rattle.text.specs.FirstLine.{seed-of, text-next, decimals-next, settings-of, judged, refused-with, first-line-of}
 use Rattle.text.specs.Printed.{answer-fields, walk-line, draw-line}
 use Rattle.text.specs.Lines.{ended, begins, lines}
 
@@ -44,7 +44,7 @@ first-lines : (first-line-of (bytes "seed 1 span 100 weights 10 10 10 10 10 10 1
     × (first-line-of (bytes "seed  span 0 weights 10 10 10 10 10 10 10 10 count 1") ≡ refused-with 14)
     × (first-line-of (bytes "seed -1 span 0 weights 10 10 10 10 10 10 10 10 count 1") ≡ refused-with 17)
     × (first-line-of (bytes "seed 1 span 100 weights 10 0 10 10 10 10 10 10 count 1") ≡ refused-with 18)
-unfolding first-line-of settings-of seed-of text-next decimals-next decimal-next number-of shortest value-from before onward same fair judged refused-with
+unfolding first-line-of settings-of seed-of text-next decimals-next decimal-next number-of shortest value-from before onward same judged refused-with
 first-lines = (refl, refl, refl, refl, refl)
 
 -- the last line of the walk, and the drawn delay 39; and of nine numbers no two of which are alike

@@ -13,7 +13,8 @@ use Rattle.rules.proofs.Tests.{both-true, tests-all-below, tests-and, tests-eq,
 use Rattle.text.specs.declared.Spoken.{Spoken}
 use Rattle.decimal.specs.Decimal.{digit, number-of, decimal}
 use Rattle.text.specs.Words.{before, onward, word, behind, same}
-use Rattle.text.specs.Commands.{Part, words, named-from, op-named, uses-a, uses-b, uses-value, left-out, omits-a, decimal-next, operand, operand-unless, spoken-by, command-of, operand-text, written, line-of}
+use Rattle.text.specs.Commands.{Part, words, named-from, op-named, uses-a, uses-b, uses-value, left-out, omits-a, decimal-next, operand, operand-unless}
+use Rattle.text.specs.Commands.{spoken-by, command-of, operand-text, written, line-of}
 use Rattle.text.proofs.Scan.{word-behind}
 use Rattle.decimal.proofs.BothWays.{reads-back, prints-back, number-bound, decimal-digits-only, decimal-length}
 
@@ -194,11 +195,11 @@ named-is n (x ∷ ws) w h = go (same w x) refl (named-is (suc n) ws w) h
         let z : named-from (suc n) ws w - n ≡ suc (named-from (suc n) ws w - suc n) = omega arith in
         record { low = rw t (omega arith); high = rw t (omega arith); is = rw (t, z) (r .is) }
 
-word-table : (k : ℕ) → k < 11 → (op-named (getD words k []) ≡ suc k) × (every no-blank (getD words k []) ≡ true) × (length (getD words k []) ≤ 7)
+word-table : (k : ℕ) → k < length words → (op-named (getD words k []) ≡ suc k) × (every no-blank (getD words k []) ≡ true) × (length (getD words k []) ≤ 7)
 unfolding op-named named-from same all-below
 word-table k h =
     let t = tests-all-below (λ j. tests-and (tests-eq (op-named (getD words j [])) (suc j))
-    (tests-and (tests-is (every no-blank (getD words j []))) (tests-le (length (getD words j [])) 7))) 11 in
+    (tests-and (tests-is (every no-blank (getD words j []))) (tests-le (length (getD words j [])) 7))) (length words) in
     let r = t .sure refl k h in
     (r .0, r .1 .0, r .1 .1)
 
@@ -208,7 +209,7 @@ word-table k h =
 pub record Command (c : Spoken) : Type 0 where
   pub code : c .code ≡ 0
   pub least : 1 ≤ c .op
-  pub most : c .op ≤ 11
+  pub most : c .op ≤ length words
   pub a-fits : c .a ≤ 255
   pub b-fits : c .b ≤ 255
   pub value-fits : c .value < 2 ^ 64

@@ -18,7 +18,8 @@ unfolding decimal-next
 decimal-bound most [] = omega arith
 decimal-bound most (b ∷ l) = go (eqb b 32)
   where
-    go : (t : Bool) → cond {A = Part} t (record { valid = number-of (word l) most .valid; value = number-of (word l) most .value; left = behind l }) (record { valid = false; value = 0; left = b ∷ l }) .value ≤ most
+    go : (t : Bool) → cond {A = Part} t (record { valid = number-of (word l) most .valid; value = number-of (word l) most .value; left = behind l })
+        (record { valid = false; value = 0; left = b ∷ l }) .value ≤ most
     go true = number-bound (word l) most
     go false = omega arith
 

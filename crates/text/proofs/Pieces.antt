@@ -8,10 +8,11 @@ use mathlib.Core.List.{List, [], _∷_, _++_, append-assoc, append-nil, map, map
 use lib.Dec.{eqb}
 use lib.ListN.{length, take, drop, set, length-take, length-drop}
 use lib.Seq.{sets, length-sets, take-all, append-snoc, drop-drop, take-take}
-use Rattle.rules.specs.Line.{empty}
+use Rattle.rules.specs.Line.{empty, joined}
 use Rattle.text.specs.declared.Held.{Held}
 use Rattle.text.specs.Words.{before, onward, line-end}
-use Rattle.text.specs.Lines.{ended, begins, last-piece, lines, kept, held-bytes, nothing-held, hold-more, end-from, cut-of, cuts, holds-after, lines-of-pieces, joined}
+use Rattle.text.specs.Lines.{ended, begins, last-piece, lines, kept, held-bytes, nothing-held, hold-more, end-from, cut-of, cuts, holds-after}
+use Rattle.text.specs.Lines.{lines-of-pieces}
 use Rattle.text.proofs.Holding.{held-part}
 
 -- ---- pieces of the definitions

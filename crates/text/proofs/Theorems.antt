@@ -9,7 +9,7 @@ use mathlib.Core.List.{List, map}
 use borrow.Author.Tests.{eqb-true, eqb-false, le-leb, leb-true}
 use lib.Dec.{eqb, leb}
 use lib.ListN.{length}
-use Rattle.rules.specs.Line.{all-below, one-if, empty, every}
+use Rattle.rules.specs.Line.{all-below, one-if, empty, every, joined}
 use Rattle.rules.specs.Kinds.{last-op, kind-at}
 use Rattle.rules.specs.Refusals.{Operand, operands, never, unused, task, object, priority, ceiling, barrier, time, ticks}
 use Rattle.rules.proofs.Tests.{both-true, tests-all-below, tests-and, tests-eq}
@@ -20,7 +20,7 @@ use Rattle.decimal.proofs.Theorems.{printed-reads, read-prints}
 use Rattle.text.specs.Commands.{uses-a, uses-b, uses-value, omits-a, op-named, operand, operand-unless, spoken-by, command-of, no-command, line-of}
 use Rattle.text.specs.Words.{word, behind}
 use Rattle.text.specs.FirstLine.{seed-of, first-line-of}
-use Rattle.text.specs.Lines.{lines, kept, joined, nothing-held, lines-of-pieces, commands-of-pieces}
+use Rattle.text.specs.Lines.{lines, kept, nothing-held, lines-of-pieces, commands-of-pieces}
 use Rattle.text.proofs.Kept.{kept-says, kept-opens}
 use Rattle.text.proofs.OneLine.{Command, line-reads, line-said}
 use Rattle.text.proofs.Pieces.{pieces-whole}
@@ -140,7 +140,8 @@ in-use time = 1
 in-use ticks = 1
 
 pub same-operands : (op : ℕ) → op < suc last-op
-    → (in-use (operands (kind-at op) .a) ≡ one-if (uses-a op)) × ((in-use (operands (kind-at op) .b) ≡ one-if (uses-b op)) × (in-use (operands (kind-at op) .value) ≡ one-if (uses-value op)))
+    → (in-use (operands (kind-at op) .a) ≡ one-if (uses-a op))
+    × ((in-use (operands (kind-at op) .b) ≡ one-if (uses-b op)) × (in-use (operands (kind-at op) .value) ≡ one-if (uses-value op)))
 unfolding all-below
 same-operands op h =
     tests-all-below

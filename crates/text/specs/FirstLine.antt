@@ -5,8 +5,9 @@ use mathlib.Core.Bool.{Bool, true, false, cond, not, _&&_}
 use mathlib.Core.List.{List, [], _∷_}
 use lib.Dec.{eqb, leb}
 use lib.ListN.{length, take, drop, replicate}
-use Rattle.rules.specs.Line.{at, every, within, empty}
+use Rattle.rules.specs.Line.{empty}
 use Rattle.rules.specs.Refusals.{first-number}
+use Rattle.generator_draws.specs.Draw.{profile-of, good-profile}
 use Rattle.text.specs.declared.SeedText.{SeedText}
 use Rattle.text.specs.declared.Settings.{Settings}
 use Rattle.text.specs.declared.FirstLine.{FirstLine}
@@ -63,16 +64,12 @@ settings-of l =
       count = count .value;
     }
 
--- 18 Profile: span not 1..1000000, a weight above 100, or Wake's weight 0 (its weight is the second)
-unfoldable pub fair : ℕ → List ℕ → Bool
-fair span weights = within 1 1000000 span && every (λ w. leb w 100) weights && leb 1 (at weights 1)
-
 unfoldable pub refused-with : ℕ → FirstLine
 refused-with code = record { code = code; seed = 0; span = 0; weights = replicate 8 0; count = 0 }
 
--- What has the form is judged by its seed (17), then by its profile (18).
+-- What has the form is judged by its seed (17), then by its profile (18), as the generator judges it.
 unfoldable pub judged : ℕ → Bool → ℕ
-judged seed-code is-fair = first-number ((not (eqb seed-code 0), 17) ∷ (not is-fair, 18) ∷ [])
+judged seed-code good = first-number ((not (eqb seed-code 0), 17) ∷ (not good, 18) ∷ [])
 
 -- The seed's word is any bytes but blanks, at least one. A line without the form is 14, whatever its seed and its
 -- profile.
@@ -81,7 +78,7 @@ first-line-of line =
     let s = text-next (bytes "seed ") line in
     let seed = word (s .left) in
     let rest = settings-of (behind (s .left)) in
-    let code = judged (seed-of seed .code) (fair (rest .span) (rest .weights)) in
+    let code = judged (seed-of seed .code) (good-profile (profile-of (rest .span) (rest .weights))) in
     cond (leb (length line) 128 && s .valid && not (empty seed) && rest .valid)
     (cond (eqb code 0)
     (record { code = 0; seed = seed-of seed .seed; span = rest .span; weights = rest .weights; count = rest .count })

@@ -92,11 +92,6 @@ unfoldable pub lines-of-pieces : Held → List (List ℕ) → List (List ℕ)
 lines-of-pieces h [] = last-piece (held-bytes h)
 lines-of-pieces h (p ∷ ps) = cuts (suc (length p)) h p 0 ++ lines-of-pieces (holds-after (suc (length p)) h p 0) ps
 
--- the pieces, one behind another
-abbrev pub joined : List (List ℕ) → List ℕ
-joined [] = []
-joined (p ∷ ps) = p ++ joined ps
-
 -- the commands that a reader of commands gets out of a piece, and out of pieces to the end of the input
 unfoldable pub commands-in : ℕ → Held → List ℕ → ℕ → List Spoken
 commands-in zero h s at = []

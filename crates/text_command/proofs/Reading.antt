@@ -1,17 +1,22 @@
 -- The parts of a line as the code reads them, by places, are those of the definitions, by what is left of the line. Assumes nothing.
-use Prim.Native.Nat.{ℕ, _+_, _-_, _≤_}
+use Prim.Native.Nat.{ℕ, zero, suc, _+_, _-_, _≤_, _<_}
 use native.Mathlib.Omega.{arith}
-use mathlib.Core.Bool.{Bool, true, false, cond, _&&_}
+use native.Mathlib.Numerals.{add-one}
+use mathlib.Core.Bool.{Bool, true, false, cond, not, _&&_}
 use mathlib.Core.Path.{_≡_, refl}
-use mathlib.Core.List.{List}
+use mathlib.Core.List.{List, [], _∷_}
 use borrow.Author.Tests.{le-leb}
-use lib.Dec.{leb}
-use lib.ListN.{length, take, drop}
+use lib.Dec.{eqb, leb}
+use lib.ListN.{length, take, drop, length-drop, drop-of-length-le}
+use lib.Seq.{drop-drop}
+use Rattle.rules.specs.Line.{empty}
 use Rattle.text_word.specs.declared.Operand.{Operand}
-use Rattle.text.specs.Words.{bytes, before, word, behind, same}
-use Rattle.text.specs.Commands.{decimal-next, operand, operand-unless, omits-a, uses-a, uses-b, uses-value, op-named, named-from, spoken-by, command-of, no-command}
+use Rattle.text.specs.Words.{before, word, behind, same}
+use Rattle.text.specs.Commands.{decimal-next, operand, operand-unless, omits-a, uses-a, uses-b, uses-value, named-from, op-named}
+use Rattle.text.specs.Commands.{spoken-by, command-of, no-command}
 use Rattle.text_word.specs.Places.{Reads}
-use Rattle.text.proofs.Scan.{take-before, drop-before}
+use Rattle.text_command.specs.Method.{words-in}
+use Rattle.text.proofs.Scan.{take-before, drop-before, word-part, behind-part}
 use Rattle.text.proofs.Parts.{operand-bound, all-read}
 
 module _ (line : List ℕ) (at most : ℕ) where
@@ -27,28 +32,54 @@ module _ (line : List ℕ) (at most : ℕ) where
 pub read-bound : (line : List ℕ) (r : Operand) (used : Bool) (most : ℕ) (l : List ℕ) → Reads line r (operand used most l) → r .value ≤ most
 read-bound line r used most l h = rw (h .value) (operand-bound used most l)
 
--- ---- the word
+-- ---- an operand that may be left out
 
-module _ (w : List ℕ) (r1 r2 r3 r4 r5 r6 r7 r8 r9 r10 r11 : ℕ)
-    (e1 : r1 ≡ cond (same w (bytes "create")) 1 r2)
-    (e2 : r2 ≡ cond (same w (bytes "object")) 2 r3)
-    (e3 : r3 ≡ cond (same w (bytes "start")) 3 r4)
-    (e4 : r4 ≡ cond (same w (bytes "delay")) 4 r5)
-    (e5 : r5 ≡ cond (same w (bytes "wake")) 5 r6)
-    (e6 : r6 ≡ cond (same w (bytes "advance")) 6 r7)
-    (e7 : r7 ≡ cond (same w (bytes "open")) 7 r8)
-    (e8 : r8 ≡ cond (same w (bytes "closep")) 8 r9)
-    (e9 : r9 ≡ cond (same w (bytes "closef")) 9 r10)
-    (e10 : r10 ≡ cond (same w (bytes "entry")) 10 r11)
-    (e11 : r11 ≡ cond (same w (bytes "done")) 11 0) where
-  pub word-named : r1 ≡ op-named w
-  unfolding op-named named-from
-  word-named = rw (e1, e2, e3, e4, e5, e6, e7, e8, e9, e10, e11)
+module _ (line : List ℕ) (at most : ℕ) (omits used : Bool) (p : Operand)
+    (r : Reads line p (operand (not (omits && leb (length line) at) && used) most (drop at line))) where
+  pub unless-read : Reads line
+      (record { valid = not (omits && not (leb (length line) at) && eqb (p .value) 0) && p .valid; value = p .value; next = p .next })
+      (operand-unless omits used most (drop at line))
+  unfolding operand-unless
+  unless-read =
+      let h = rw (← all-read line at) at r in
+      record { valid = rw (← all-read line at, h .valid, h .value); value = h .value; left = h .left; within = h .within }
 
--- An operand that is never left out. (No op has one that may be: `left-out` is empty.)
-kept-in : (line l : List ℕ) (used : Bool) (a : Operand) → Reads line a (operand used 255 l) → Reads line a (operand-unless false used 255 l)
+pub unless-bound : (line : List ℕ) (r : Operand) (omits used : Bool) (most : ℕ) (l : List ℕ) → Reads line r (operand-unless omits used most l)
+    → r .value ≤ most
 unfolding operand-unless
-kept-in line l used a h = record { valid = h .valid; value = h .value; left = h .left; within = h .within }
+unless-bound line r omits used most l h = rw (h .value) (operand-bound (not (omits && empty l) && used) most l)
+
+-- ---- the word: a turn of the loop over a text of words, whose n-th begins at a place
+
+some-word : (k : ℕ) (l : List ℕ) → 1 ≤ length l → words-in (suc k) l ≡ word l ∷ words-in k (drop 1 (behind l))
+unfolding words-in
+some-word k [] h = absurd (omega arith)
+some-word k (b ∷ l) h = refl
+
+module _ (words : List ℕ) (at end : ℕ) (h : at < length words) (e : end ≡ at + length (before 32 (drop at words))) where
+  word-at : (k : ℕ) → words-in (suc k) (drop at words) ≡ take (end - at) (drop at words) ∷ words-in k (drop (end + 1) words)
+  word-at k =
+      let l : 1 ≤ length (drop at words) = rw length-drop (omega arith) in
+      rw (some-word k (drop at words) l, word-part 32 words at end e, ← behind-part 32 words at end e, drop-drop 1 end words)
+
+  pub word-turn : (w : List ℕ) (n : ℕ) → n ≤ 255 → named-from n (words-in (256 - n) (drop at words)) w
+      ≡ cond (same w (take (end - at) (drop at words))) n (named-from (n + 1) (words-in (256 - (n + 1)) (drop (end + 1) words)) w)
+  unfolding named-from
+  word-turn w n few =
+      let s : 256 - n ≡ suc (255 - n) = omega arith in
+      let t : 256 - (n + 1) ≡ 255 - n = omega arith in
+      rw (s, t, add-one, word-at (255 - n))
+
+-- no word behind the end
+pub none-left : (words w : List ℕ) (n k at : ℕ) → length words ≤ at → named-from n (words-in k (drop at words)) w ≡ 0
+unfolding words-in named-from
+none-left words w n k at h = rw (drop-of-length-le words h) (go k)
+  where
+    go : (k : ℕ) → named-from n (words-in k []) w ≡ 0
+    go zero = refl
+    go (suc k) = refl
+
+-- ---- the line
 
 module _ (line l : List ℕ) (op : ℕ) (a b v : Operand) (ra : Reads line a (operand-unless (omits-a op) (uses-a op) 255 l))
     (rb : Reads line b (operand (uses-b op) 255 (drop (a .next) line)))
@@ -62,9 +93,9 @@ module _ (line l : List ℕ) (op : ℕ) (a b v : Operand) (ra : Reads line a (op
       (operand (uses-b op) 255 (operand-unless (omits-a op) (uses-a op) 255 l .left) .left)) = rw (rb′ .left) at rv in
       rw (ra .valid, ra .value, rb′ .valid, rb′ .value, rv′ .valid, rv′ .value, ← all-read line (v .next), rv′ .left)
 
-module _ (line : List ℕ) (end op : ℕ) (ua ub uv : Bool) (a b v : Operand) (h : length line ≤ 64) (e : end ≡ 0 + length (before 32 line))
-    (o : op ≡ op-named (take end line)) (ea : ua ≡ uses-a op) (eb : ub ≡ uses-b op) (ev : uv ≡ uses-value op)
-    (ra : Reads line a (operand ua 255 (drop end line))) (rb : Reads line b (operand ub 255 (drop (a .next) line)))
+module _ (line : List ℕ) (end op : ℕ) (oa ua ub uv : Bool) (a b v : Operand) (h : length line ≤ 64) (e : end ≡ 0 + length (before 32 line))
+    (o : op ≡ op-named (take end line)) (eo : oa ≡ omits-a op) (ea : ua ≡ uses-a op) (eb : ub ≡ uses-b op) (ev : uv ≡ uses-value op)
+    (ra : Reads line a (operand-unless oa ua 255 (drop end line))) (rb : Reads line b (operand ub 255 (drop (a .next) line)))
     (rv : Reads line v (operand uv 18446744073709551615 (drop (b .next) line))) where
   pub line-read : cond (leb 1 op && a .valid && b .valid && v .valid && leb (length line) (v .next))
       (record { code = 0; op = op; a = a .value; b = b .value; value = v .value }) no-command ≡ command-of line
@@ -73,6 +104,5 @@ module _ (line : List ℕ) (end op : ℕ) (ua ub uv : Bool) (a b v : Operand) (h
       let n : end ≡ length (before 32 line) = omega arith in
       let w : take end line ≡ word line = rw n (take-before 32 line) in
       let d : drop end line ≡ behind line = rw n (drop-before 32 line) in
-      let r = kept-in line (drop end line) (uses-a op) a (rw ea at ra) in
       rw (le-leb (length line) 64 h, ← w, ← d, ← o)
-      (operands-read line (drop end line) op a b v r (rw eb at rb) (rw ev at rv))
+      (operands-read line (drop end line) op a b v (rw (eo, ea) at ra) (rw eb at rb) (rw ev at rv))

@@ -12,6 +12,7 @@ use Rattle.one_answer.proofs.Law.{OneAnswer, one}
 use Rattle.text_command.proofs.takes_a
 use Rattle.text_command.proofs.takes_b
 use Rattle.text_command.proofs.takes_value
+use Rattle.text_command.proofs.writes_a
 use Rattle.text_command.proofs.no_command
 use Rattle.text_command.proofs.command
 
@@ -24,6 +25,9 @@ module _ {M : Type 1} (𝓤 : URA M) (H : Heap 𝓤) (A : Atoms 𝓤) (mem : Mem
 
   pub takes-value-single : OneAnswer 𝓤 takes_value.ended (takes_value.clauses 𝓤 H A mem run)
   takes-value-single κs a g r s d e = one 𝓤 _ _ _
+
+  pub writes-a-single : OneAnswer 𝓤 writes_a.ended (writes_a.clauses 𝓤 H A mem run)
+  writes-a-single κs a g r s d e = one 𝓤 _ _ _
 
   pub no-command-single : OneAnswer 𝓤 no_command.ended (no_command.clauses 𝓤 H A mem run)
   no-command-single κs a g r s d e = one 𝓤 _ _ _

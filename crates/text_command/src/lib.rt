@@ -1,10 +1,10 @@
 // Command lines: the command's word and its operands, single blanks, unsigned decimals.
-ghost use mathlib.Core.Bool.{cond};
 ghost use mathlib.Core.Path.{_≡_};
-ghost use Prim.Native.Nat.{_≤_};
+ghost use Prim.Native.Nat.{_≤_, _<_};
 ghost use lib.ListN.{length, drop};
-ghost use Rattle.text.specs.Words.{same};
-ghost use Rattle.text.specs.Commands.{op-named, uses-a, uses-b, uses-value, operand, command-of, no-command};
+ghost use Rattle.text.specs.Commands.{named-from, op-named, uses-a, uses-b, uses-value, omits-a, operand};
+ghost use Rattle.text.specs.Commands.{operand-unless, written, command-of, no-command};
+ghost use Rattle.text_command.specs.Method.{words-in};
 ghost use Rattle.text_word.specs.Places.{Reads};
 use text::Spoken;
 use text_word::Operand;
@@ -12,31 +12,32 @@ use text_word::find;
 use text_word::next_decimal;
 use text_word::same_bytes;
 
-// `op` where the word is `text`, and else the other.
-fn named(word: &[u8], text: &[u8], op: u8, other: u8) -> u8
-    ensures { λ r. ⌜ r ≡ cond (same (now (word .entry)) (now (text .entry))) op other ⌝ }
+// The number of a word among those of a text, a blank between two: 1 for the first, 0 for none.
+fn number_among(word: &[u8], words: &[u8]) -> u8
+    requires { ⌜ length (now words) < 255 ⌝ }
+    ensures { λ r. ⌜ r ≡ named-from 1 (words-in 255 (now (words .entry))) (now (word .entry)) ⌝ }
 {
-    if same_bytes(word, text) {
-        return op;
+    let mut n = 1u8;
+    let mut at: usize = 0;
+    while at < words.len() {
+        let end = find(words, at, 32);
+        if same_bytes(word, &words[at..end]) {
+            return n;
+        }
+        at = end + 1;
+        n += 1;
     }
-    other
+    0
 }
 
-// The op that a word names, 0 for none.
+// The op that a word names, 0 for none: the words stand in the order of the ops, from 1 on.
 fn op_of(word: &[u8]) -> u8
     ensures { λ r. ⌜ r ≡ op-named (now (word .entry)) ⌝ }
 {
-    let done = named(word, b"done", 11, 0);
-    let entry = named(word, b"entry", 10, done);
-    let closef = named(word, b"closef", 9, entry);
-    let closep = named(word, b"closep", 8, closef);
-    let open = named(word, b"open", 7, closep);
-    let advance = named(word, b"advance", 6, open);
-    let wake = named(word, b"wake", 5, advance);
-    let delay = named(word, b"delay", 4, wake);
-    let start = named(word, b"start", 3, delay);
-    let object = named(word, b"object", 2, start);
-    named(word, b"create", 1, object)
+    number_among(
+        word,
+        b"create object start delay wake advance open closep closef entry done",
+    )
 }
 
 // Whether a line of the op has the operand.
@@ -75,6 +76,34 @@ fn take_operand(line: &[u8], at: usize, used: bool, most: u64) -> Operand
     }
 }
 
+// Whether the op's a may be left out of the line. There is no such op today.
+fn omits_a(op: u8) -> bool
+    ensures { λ r. ⌜ r ≡ omits-a op ⌝ }
+{
+    false
+}
+
+// Whether a command's line says a: what may be left out is said where it is not 0.
+pub fn writes_a(op: u8, a: u8) -> bool
+    ensures { λ r. ⌜ r ≡ written (omits-a op) (uses-a op) a ⌝ }
+{
+    !(omits_a(op) & (a == 0)) & takes_a(op)
+}
+
+// An operand that may be left out, where `omits` is true: it is read where the line goes on, and is not 0 then.
+fn take_unless(line: &[u8], at: usize, omits: bool, used: bool, most: u64) -> Operand
+    requires { ⌜ at ≤ length (now line) ⌝ }
+    ensures { λ r. ⌜ Reads (now (line .entry)) r (operand-unless omits used most (drop at (now (line .entry)))) ⌝ }
+{
+    let over = line.len() <= at;
+    let p = take_operand(line, at, !(omits & over) & used, most);
+    Operand {
+        valid: !(omits & !over & (p.value == 0)) & p.valid,
+        value: p.value,
+        next: p.next,
+    }
+}
+
 // Code 14 and zeros.
 pub fn no_command() -> Spoken
     ensures { λ r. ⌜ r ≡ no-command ⌝ }
@@ -97,7 +126,7 @@ pub fn command(line: &[u8]) -> Spoken
     }
     let end = find(line, 0, 32);
     let op = op_of(&line[..end]);
-    let a = take_operand(line, end, takes_a(op), 255);
+    let a = take_unless(line, end, omits_a(op), takes_a(op), 255);
     let a_next = a.next;
     let b = take_operand(line, a_next, takes_b(op), 255);
     let b_next = b.next;

@@ -5,11 +5,11 @@ use native.Mathlib.Numerals.{add-one}
 use mathlib.Core.Bool.{Bool, true, false, cond, not, _&&_, and-true, and-assoc}
 use mathlib.Core.Path.{_≡_, refl, ap, sym, _∙_}
 use mathlib.Core.List.{List, [], _∷_, _++_, append-nil}
-use borrow.Author.Tests.{le-leb, lt-leb, lt-ltb, le-ltb}
+use borrow.Author.Tests.{lt-ltb, le-ltb}
 use lib.Dec.{eqb, leb, ltb}
-use lib.ListN.{length, take, drop, set, getD, replicate, drop-of-length-le, length-take, length-drop, length-set}
-use lib.Seq.{drop-cons, drop-drop, take-all, take-suc-set, append-snoc}
-use Rattle.rules.specs.Line.{every, empty}
+use lib.ListN.{length, take, drop, set, replicate, length-take, length-drop, length-set}
+use lib.Seq.{drop-drop, take-all, take-suc-set, append-snoc}
+use Rattle.rules.specs.Line.{empty}
 use Rattle.text_word.specs.declared.Operand.{Operand}
 use Rattle.decimal.specs.declared.Reading.{Reading}
 use Rattle.text.specs.declared.SeedText.{SeedText}
@@ -20,7 +20,8 @@ use Rattle.decimal.proofs.BothWays.{number-bound}
 use Rattle.text.specs.Words.{bytes, before, word, behind, same}
 use Rattle.text.specs.Commands.{decimal-next}
 use Rattle.text_word.specs.Places.{Reads}
-use Rattle.text.specs.FirstLine.{word-most, seed-of, text-next, decimals-next, settings-of, fair, judged, refused-with, first-line-of}
+use Rattle.generator_draws.specs.Draw.{profile-of, good-profile}
+use Rattle.text.specs.FirstLine.{word-most, seed-of, text-next, decimals-next, settings-of, judged, refused-with, first-line-of}
 use Rattle.text_first.specs.Eight.{ReadsEight}
 use Rattle.text.proofs.Scan.{differ-in-length, word-part, behind-part}
 use Rattle.text.proofs.Parts.{all-read, decimal-bound}
@@ -156,18 +157,6 @@ module _ (line l : List ℕ) (s span w : Operand) (eight : Eight) (k count : Ope
 pub value-bound : (line : List ℕ) (r : Operand) (most : ℕ) (l : List ℕ) → Reads line r (decimal-next most l) → r .value ≤ most
 value-bound line r most l h = rw (h .value) (decimal-bound most l)
 
--- ---- the weights
-
-module _ (w : List ℕ) (i : ℕ) where
-  pub heavy : i < length w → 100 < getD w i 0 → false ≡ every (λ x. leb x 100) (drop i w)
-  heavy h g = rw (drop-cons w i 0 h, lt-leb (getD w i 0) 100 g)
-
-  pub light : i < length w → getD w i 0 ≤ 100 → every (λ x. leb x 100) (drop (i + 1) w) ≡ every (λ x. leb x 100) (drop i w)
-  light h g = rw (add-one, drop-cons w i 0 h, le-leb (getD w i 0) 100 g)
-
-  pub all-light : length w ≤ i → true ≡ every (λ x. leb x 100) (drop i w)
-  all-light h = rw (drop-of-length-le w h)
-
 -- ---- the line
 
 some-word : (w : List ℕ) (from end : ℕ) → end ≡ from + length w → not (empty w) ≡ ltb from end
@@ -178,9 +167,9 @@ module _ (line : List ℕ) (s : Operand) (end : ℕ) (rest : Settings) (seed : S
     (rs : Reads line s (text-next (bytes "seed ") line)) (e : end ≡ s .next + length (before 32 (drop (s .next) line)))
     (er : rest ≡ settings-of (drop end line)) (es : seed ≡ seed-of (take (end - s .next) (drop (s .next) line))) where
   pub first-read : cond (leb (length line) 128 && s .valid && ltb (s .next) end && rest .valid)
-      (cond (eqb (judged (seed .code) (fair (rest .span) (rest .weights))) 0)
+      (cond (eqb (judged (seed .code) (good-profile (profile-of (rest .span) (rest .weights)))) 0)
       (record { code = 0; seed = seed .seed; span = rest .span; weights = rest .weights; count = rest .count })
-      (refused-with (judged (seed .code) (fair (rest .span) (rest .weights)))))
+      (refused-with (judged (seed .code) (good-profile (profile-of (rest .span) (rest .weights))))))
       (refused-with 14)
       ≡ first-line-of line
   unfolding first-line-of

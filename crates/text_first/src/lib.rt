@@ -1,15 +1,14 @@
 // Seed text, and the first line of draw.
 ghost use mathlib.Core.Path.{_≡_};
-ghost use mathlib.Core.Bool.{cond};
 ghost use Prim.Native.Nat.{_≤_};
 ghost use lib.ListN.{length, drop};
-ghost use Rattle.rules.specs.Line.{every};
-ghost use lib.Dec.{leb};
 ghost use Rattle.text_word.specs.Places.{Reads};
 ghost use Rattle.text_first.specs.Eight.{ReadsEight};
 ghost use Rattle.text.specs.FirstLine.{word-most, seed-of, text-next, decimals-next, settings-of};
-ghost use Rattle.text.specs.FirstLine.{fair, judged, refused-with, first-line-of};
+ghost use Rattle.text.specs.FirstLine.{judged, refused-with, first-line-of};
 use decimal_read::number;
+use generator_checks::is_good;
+use numbers::choose;
 use text::FirstLine;
 use text::SeedText;
 use text::Settings;
@@ -123,38 +122,11 @@ fn read_settings(line: &[u8], at: usize) -> Settings
     }
 }
 
-// Whether no weight is above 100.
-fn small(weights: [u32; 8]) -> bool
-    ensures { λ r. ⌜ r ≡ every (λ w. leb w 100) weights ⌝ }
-{
-    let mut i = 0;
-    while i < 8 {
-        if 100 < weights[i] {
-            return false;
-        }
-        i += 1;
-    }
-    true
-}
-
-// A span 1..1000000, no weight above 100, and Wake's weight not 0.
-fn is_fair(span: u32, weights: [u32; 8]) -> bool
-    ensures { λ r. ⌜ r ≡ fair span weights ⌝ }
-{
-    (1 <= span) & (span <= 1000000) & small(weights) & (1 <= weights[1])
-}
-
-fn choose(test: bool, number: u8, rest: u8) -> u8
-    ensures { λ r. ⌜ r ≡ cond test number rest ⌝ }
-{
-    if test { number } else { rest }
-}
-
 // 17 for the seed, then 18 for the profile, 0 for neither.
-fn judge(seed_code: u8, fair: bool) -> u8
-    ensures { λ r. ⌜ r ≡ judged «seed_code» fair ⌝ }
+fn judge(seed_code: u8, good: bool) -> u8
+    ensures { λ r. ⌜ r ≡ judged «seed_code» good ⌝ }
 {
-    choose(seed_code != 0, 17, choose(!fair, 18, 0))
+    choose(seed_code != 0, 17, choose(!good, 18, 0))
 }
 
 fn refuse(code: u8) -> FirstLine
@@ -183,7 +155,7 @@ pub fn first_line(line: &[u8]) -> FirstLine
     }
     let span = rest.span;
     let weights = rest.weights;
-    let code = judge(seed.code, is_fair(span, weights));
+    let code = judge(seed.code, is_good(span, weights));
     if code != 0 {
         return refuse(code);
     }

@@ -19,8 +19,8 @@ choose-requires c κs = search needs
 delay-time-requires : tie.Need-delay-time-requires
 delay-time-requires c κs = search needs
 
-wide-requires : tie.Need-wide-requires
-wide-requires c κs = search needs
+wider-requires : tie.Need-wider-requires
+wider-requires c κs = search needs
 
 add-advance : tie.Need-add-advance
 add-advance c = search needs
@@ -50,7 +50,7 @@ returns c =
     whole (a .clock) (a .object) (a .quiet) (a .x) (a .y) (a .i) _ _ _ _ _ _ (c .before .before .cell .ensures) (c .before .cell2 .ensures)
     (c .long-cell .ensures)
     (c .before .before .before .before .before .choose .ensures) (c .before .before .before .before .delay-time .ensures)
-    (c .before .before .before .wide .ensures .0)
+    (c .before .before .before .wider .ensures .0)
 
 pub command-for-spec : {M : Type 1} → statement M
 command-for-spec =
@@ -59,7 +59,7 @@ command-for-spec =
     cast-barrier
     choose-requires
     delay-time-requires
-    wide-requires
+    wider-requires
     add-advance
     cell-requires
     cell-requires-2

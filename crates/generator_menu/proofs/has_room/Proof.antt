@@ -5,14 +5,14 @@ use borrow.Author.Needs.{needs}
 use Rattle.generator_menu.proofs.has_room.Statement.{statement}
 use Rattle.generator_menu.proofs.has_room.Tie as tie
 
-wide-requires : tie.Need-wide-requires
-wide-requires c κs = search needs
+wider-requires : tie.Need-wider-requires
+wider-requires c κs = search needs
 
 sub-result : tie.Need-sub-result
 sub-result c = search needs
 
 returns : tie.Need-returns
-returns c = rw (c .wide .ensures .0) (room (c .before .args .clock) (c .before .args .span) (omega arith))
+returns c = rw (c .wider .ensures .0) (room (c .before .args .clock) (c .before .args .span) (omega arith))
 
 pub has-room-spec : {M : Type 1} → statement M
-has-room-spec = tie.close (tie.spec wide-requires sub-result returns)
+has-room-spec = tie.close (tie.spec wider-requires sub-result returns)

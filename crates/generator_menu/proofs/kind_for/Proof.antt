@@ -21,21 +21,21 @@ loop-holds c = search needs
 cast-j : tie.Need-cast-j Inv-loop μ-loop
 cast-j c = search needs
 
-mul-wide : tie.Need-mul-wide Inv-loop μ-loop
-mul-wide c = search needs
+mul-wider : tie.Need-mul-wider Inv-loop μ-loop
+mul-wider c = search needs
 
-array-read-wide : tie.Need-array-read-wide Inv-loop μ-loop
-array-read-wide c = search needs
+array-read-wider : tie.Need-array-read-wider Inv-loop μ-loop
+array-read-wider c = search needs
 
-wide-requires : tie.Need-wide-requires Inv-loop μ-loop
-wide-requires c κs = search needs
+wider-requires : tie.Need-wider-requires Inv-loop μ-loop
+wider-requires c κs = search needs
 
 returns : tie.Need-returns Inv-loop μ-loop
 returns c =
     let h = c .before .before .before in
     let a = h .before .args in
     let len : length (a .t2) ≡ 8 = search needs in
-    sym (h .loop .inv .1 ∙ index-stop (h .loop .left) (a .t2) (h .loop .i) (omega arith) (omega (arith, c .before .wide .ensures .0)))
+    sym (h .loop .inv .1 ∙ index-stop (h .loop .left) (a .t2) (h .loop .i) (omega arith) (omega (arith, c .before .wider .ensures .0)))
 
 add-i : tie.Need-add-i Inv-loop μ-loop
 add-i c = search needs
@@ -49,8 +49,8 @@ loop-again c =
     let a = h .before .args in
     let len : length (a .t2) ≡ 8 = search needs in (
       omega arith,
-      h .loop .inv .1 ∙ rw (c .before .wide .ensures .0)
-          (index-step (h .loop .left) (a .t2) (h .loop .i) (omega arith) (omega (arith, c .before .wide .ensures .0))),
+      h .loop .inv .1 ∙ rw (c .before .wider .ensures .0)
+          (index-step (h .loop .left) (a .t2) (h .loop .i) (omega arith) (omega (arith, c .before .wider .ensures .0))),
     )
 
 returns-2 : tie.Need-returns-2 Inv-loop μ-loop
@@ -68,9 +68,9 @@ kind-for-spec =
     μ-loop
     loop-holds
     cast-j
-    mul-wide
-    array-read-wide
-    wide-requires
+    mul-wider
+    array-read-wider
+    wider-requires
     returns
     add-i
     loop-less

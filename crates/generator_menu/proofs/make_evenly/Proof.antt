@@ -18,8 +18,8 @@ sum-requires c κs = search needs
 choice-from-requires : tie.Need-choice-from-requires
 choice-from-requires c κs = search needs
 
-wide-requires : tie.Need-wide-requires
-wide-requires c κs = search needs
+wider-requires : tie.Need-wider-requires
+wider-requires c κs = search needs
 
 kind-for-requires : tie.Need-kind-for-requires
 kind-for-requires c κs = search needs
@@ -41,7 +41,7 @@ returns c =
     (a .seed) _ _ _ _ _ _ _
     (c .finish .ensures)
     (c .before .kind-for .ensures)
-    (c .before .before .wide .ensures .0)
+    (c .before .before .wider .ensures .0)
     (c .before .before .before .choice-from .ensures)
     (c .before .before .before .before .sum .ensures)
     (c .before .before .before .before .before .worths .ensures)
@@ -55,7 +55,7 @@ make-evenly-spec =
     worths-requires
     sum-requires
     choice-from-requires
-    wide-requires
+    wider-requires
     kind-for-requires
     finish-requires
     returns)

@@ -7,8 +7,8 @@ use borrow.Author.Needs.{needs}
 use Rattle.generator_menu.proofs.operand_below.Statement.{statement}
 use Rattle.generator_menu.proofs.operand_below.Tie as tie
 
-wide-requires : tie.Need-wide-requires
-wide-requires c κs = search needs
+wider-requires : tie.Need-wider-requires
+wider-requires c κs = search needs
 
 add-times : tie.Need-add-times
 add-times c = search needs
@@ -20,7 +20,7 @@ returns : tie.Need-returns
 returns c =
     let a = c .before .before .args in
     let n = a .s .count in
-    c .long-cell .ensures ∙ ap (λ (w : ℕ). at ((w + 1) ∷ 0 ∷ w ∷ n ∷ 0 ∷ 0 ∷ n ∷ 0 ∷ []) (a .i)) (c .before .wide .ensures .0)
+    c .long-cell .ensures ∙ ap (λ (w : ℕ). at ((w + 1) ∷ 0 ∷ w ∷ n ∷ 0 ∷ 0 ∷ n ∷ 0 ∷ []) (a .i)) (c .before .wider .ensures .0)
 
 pub operand-below-spec : {M : Type 1} → statement M
-operand-below-spec = tie.close (tie.spec wide-requires add-times long-cell-requires returns)
+operand-below-spec = tie.close (tie.spec wider-requires add-times long-cell-requires returns)

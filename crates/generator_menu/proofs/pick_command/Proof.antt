@@ -12,8 +12,8 @@ look-requires c κs = search needs
 worths-requires : tie.Need-worths-requires
 worths-requires c κs = search needs
 
-wide-requires : tie.Need-wide-requires
-wide-requires c κs = search needs
+wider-requires : tie.Need-wider-requires
+wider-requires c κs = search needs
 
 sum-requires : tie.Need-sum-requires
 sum-requires c κs = search needs
@@ -65,7 +65,7 @@ returns c =
     (c .before .before .before .before .before .before .before .kind-for .ensures)
     (c .before .before .before .before .before .before .before .before .remainder .ensures)
     (c .before .before .before .before .before .before .before .before .before .sum .ensures)
-    (c .before .before .before .before .before .before .before .before .before .before .wide .ensures .0)
+    (c .before .before .before .before .before .before .before .before .before .before .wider .ensures .0)
     (c .before .before .before .before .before .before .before .before .before .before .before .worths .ensures)
     (c .before .before .before .before .before .before .before .before .before .before .before .before .look .ensures)
 
@@ -75,7 +75,7 @@ pick-command-spec =
     (tie.spec
     look-requires
     worths-requires
-    wide-requires
+    wider-requires
     sum-requires
     remainder-requires
     kind-for-requires

@@ -18,14 +18,14 @@ abbrev μ-loop : tie.MeasureT-loop
 loop-holds : tie.Need-loop-holds Inv-loop μ-loop
 loop-holds c = search needs
 
-mul-wide : tie.Need-mul-wide Inv-loop μ-loop
-mul-wide c = search needs
+mul-wider : tie.Need-mul-wider Inv-loop μ-loop
+mul-wider c = search needs
 
-array-read-wide : tie.Need-array-read-wide Inv-loop μ-loop
-array-read-wide c = search needs
+array-read-wider : tie.Need-array-read-wider Inv-loop μ-loop
+array-read-wider c = search needs
 
-wide-requires : tie.Need-wide-requires Inv-loop μ-loop
-wide-requires c κs = search needs
+wider-requires : tie.Need-wider-requires Inv-loop μ-loop
+wider-requires c κs = search needs
 
 add-s : tie.Need-add-s Inv-loop μ-loop
 add-s c = search needs
@@ -41,7 +41,7 @@ loop-again c =
     let h = c .before .before in
     let a = h .before .args in
     let len : length (a .t1) ≡ 8 = search needs in
-    (omega arith, omega arith, omega (arith, sum-step (a .t1) (h .loop .i) (omega arith), c .wide .ensures .0))
+    (omega arith, omega arith, omega (arith, sum-step (a .t1) (h .loop .i) (omega arith), c .wider .ensures .0))
 
 returns : tie.Need-returns Inv-loop μ-loop
 returns c =
@@ -57,9 +57,9 @@ sum-spec =
     Inv-loop
     μ-loop
     loop-holds
-    mul-wide
-    array-read-wide
-    wide-requires
+    mul-wider
+    array-read-wider
+    wider-requires
     add-s
     add-i
     loop-less

@@ -15,8 +15,8 @@ pack-drawn-requires c κs = search needs
 wider-requires : tie.Need-wider-requires
 wider-requires c κs = search needs
 
-wide-requires : tie.Need-wide-requires
-wide-requires c κs = search needs
+wide32-requires : tie.Need-wide32-requires
+wide32-requires c κs = search needs
 
 wider-requires-2 : tie.Need-wider-requires-2
 wider-requires-2 c κs = search needs
@@ -32,7 +32,7 @@ returns c =
     let drawn = c .before .before in
     let packing = drawn .before in
     same-halves (drawn .wider .ensures .0 ∙ packing .pack-drawn .ensures ∙ ap packedDrawn (packing .before .bare .ensures))
-    (c .wider2 .ensures .0 ∙ c .before .wide .ensures .0)
+    (c .wider2 .ensures .0 ∙ c .before .wide32 .ensures .0)
 
 pub pack-even-spec : {M : Type 1} → statement M
 pack-even-spec =
@@ -41,7 +41,7 @@ pack-even-spec =
     bare-requires
     pack-drawn-requires
     wider-requires
-    wide-requires
+    wide32-requires
     wider-requires-2
     mul-result
     add-result

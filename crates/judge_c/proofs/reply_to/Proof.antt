@@ -18,8 +18,8 @@ pack-requires-2 c κs = search needs
 enum-known-verdict-3 : tie.Need-enum-known-verdict-3
 enum-known-verdict-3 c = search needs
 
-wide-requires : tie.Need-wide-requires
-wide-requires c κs = search needs
+wide32-requires : tie.Need-wide32-requires
+wide32-requires c κs = search needs
 
 returns : tie.Need-returns
 returns c = rw (c .before .verdict .given .1)
@@ -28,7 +28,7 @@ returns-2 : tie.Need-returns-2
 returns-2 c = rw (c .before .before .before .verdict2 .given .1, c .before .pack .ensures, c .pack2 .ensures)
 
 returns-3 : tie.Need-returns-3
-returns-3 c = rw (c .before .before .verdict3 .given .1, c .wide .ensures .0)
+returns-3 c = rw (c .before .before .verdict3 .given .1, c .wide32 .ensures .0)
 
 pub reply-to-spec : {M : Type 1} → statement M
 reply-to-spec =
@@ -39,7 +39,7 @@ reply-to-spec =
     pack-requires
     pack-requires-2
     enum-known-verdict-3
-    wide-requires
+    wide32-requires
     returns
     returns-2
     returns-3)

@@ -1,4 +1,4 @@
--- `kernel_line::is_ended` meets its contract. The invariant: the line is ended just when it is so far and the rest is. Assumes nothing.
+-- `kernel_order::is_ended` meets its contract. The invariant: the line is ended just when it is so far and the rest is. Assumes nothing.
 use Prim.Native.Nat.{_-_, _≤_}
 use mathlib.Core.Path.{_≡_, sym, _∙_}
 use native.Mathlib.Omega.{arith}

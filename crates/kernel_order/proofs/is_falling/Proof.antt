@@ -1,4 +1,4 @@
--- `kernel_line::is_falling` meets its contract. The invariant: the line is in order just when the rest is, behind the level of the last entry passed.
+-- `kernel_order::is_falling` meets its contract. The invariant: the line is in order just when the rest is, behind the level of the last entry passed.
 -- Assumes nothing.
 use Prim.Native.Nat.{ℕ, _+_, _-_}
 use mathlib.Core.Path.{_≡_, sym, ap, _∙_}

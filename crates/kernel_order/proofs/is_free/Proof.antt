@@ -1,4 +1,4 @@
--- `kernel_line::is_free` meets its contract. The invariant: all is free just when it is so far and the rest is. Assumes nothing.
+-- `kernel_order::is_free` meets its contract. The invariant: all is free just when it is so far and the rest is. Assumes nothing.
 use Prim.Native.Nat.{_-_, _≤_}
 use mathlib.Core.Path.{_≡_, sym, _∙_}
 use native.Mathlib.Omega.{arith}
@@ -12,10 +12,10 @@ use Rattle.kernel_order.proofs.is_free.Statement.{statement}
 use Rattle.kernel_order.proofs.is_free.Tie as tie
 
 abbrev Inv-loop : tie.InvT-loop
-Inv-loop line cells free₀ i₀ free i = (i ≤ 32) × (zeros line ≡ free && zeros (drop i line))
+Inv-loop cells free₀ i₀ free i = (i ≤ length cells) × (zeros cells ≡ free && zeros (drop i cells))
 
 abbrev μ-loop : tie.MeasureT-loop
-μ-loop line cells free₀ i₀ free i = 32 - i
+μ-loop cells free₀ i₀ free i = length cells - i
 
 loop-holds : tie.Need-loop-holds Inv-loop μ-loop
 loop-holds c = search needs
@@ -32,16 +32,14 @@ loop-less c = search needs
 loop-again : tie.Need-loop-again Inv-loop μ-loop
 loop-again c =
     let h = c .before .before in
-    let a = h .before .before .args in
-    let len : length (a .line .now) ≡ 32 = h .before .cells .given .0 in
-    (omega arith, h .loop .inv .1 ∙ every-step (λ x. eqb x 0) (a .line .now) (h .loop .i) (h .loop .free) (omega arith))
+    let a = h .before .args in
+    (omega arith, h .loop .inv .1 ∙ every-step (λ x. eqb x 0) (a .cells .now) (h .loop .i) (h .loop .free) (omega arith))
 
 returns : tie.Need-returns Inv-loop μ-loop
 returns c =
     let h = c .before in
-    let a = h .before .before .args in
-    let len : length (a .line .now) ≡ 32 = h .before .cells .given .0 in
-    sym (h .loop .inv .1 ∙ every-done (λ x. eqb x 0) (a .line .now) (h .loop .i) (h .loop .free) (omega arith))
+    let a = h .before .args in
+    sym (h .loop .inv .1 ∙ every-done (λ x. eqb x 0) (a .cells .now) (h .loop .i) (h .loop .free) (omega arith))
 
 pub is-free-spec : {M : Type 1} → statement M
 is-free-spec =

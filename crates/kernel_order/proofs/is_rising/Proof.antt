@@ -1,4 +1,4 @@
--- `kernel_line::is_rising` meets its contract. The invariant: the line is in order just when the rest is, behind the time of the last entry passed.
+-- `kernel_order::is_rising` meets its contract. The invariant: the line is in order just when the rest is, behind the time of the last entry passed.
 -- Assumes nothing.
 use Prim.Native.Nat.{_-_}
 use mathlib.Core.Path.{_≡_, sym, _∙_}

@@ -6,14 +6,17 @@ use Rattle.kernel_sound.proofs.is_calm.Tie as tie
 returns : tie.Need-returns
 returns c = rw (c .if1 .taken)
 
-nobody-waits-requires : tie.Need-nobody-waits-requires
-nobody-waits-requires c κs = search needs
+slice-aggregate-is-free : tie.Need-slice-aggregate-is-free
+slice-aggregate-is-free c = search needs
 
 is-free-requires : tie.Need-is-free-requires
 is-free-requires c κs = search needs
 
+is-free-requires-2 : tie.Need-is-free-requires-2
+is-free-requires-2 c κs = search needs
+
 returns-2 : tie.Need-returns-2
-returns-2 c = rw (c .before .before .if1 .left, c .is-free .ensures, c .before .nobody-waits .ensures)
+returns-2 c = rw (c .before .before .before .before .if1 .left, c .is-free2 .ensures, c .before .before .is-free .ensures)
 
 pub is-calm-spec : {M : Type 1} → statement M
-is-calm-spec = tie.close (tie.spec returns nobody-waits-requires is-free-requires returns-2)
+is-calm-spec = tie.close (tie.spec returns slice-aggregate-is-free is-free-requires is-free-requires-2 returns-2)

@@ -37,8 +37,8 @@ write-whole-requires c κs = search needs
 loop-less : tie.Need-loop-less Inv-loop μ-loop
 loop-less c =
     let lp = c .before .before .before .before .before .before .before .before .before .before .before .before .before .loop in
-    fewer (lp .draw) _ (eqb-true (lp .draw .stage) 2 (c .before .before .before .before .before .before .before .before .before .if2 .taken)) (ltb-true 0
-    (lp .draw .left) (c .before .before .before .before .before .before .before .if3 .taken))
+    fewer (lp .run) _ (eqb-true (lp .run .stage) 2 (c .before .before .before .before .before .before .before .before .before .if2 .taken)) (ltb-true 0
+    (lp .run .left) (c .before .before .before .before .before .before .before .if3 .taken))
     (c .before .before .before .before .before .put-draws .ensures .0)
 
 loop-again : tie.Need-loop-again Inv-loop μ-loop
@@ -49,7 +49,7 @@ loop-again c =
     let on = not-failed (lp .went .kind) (f .result) (f .ensures) (not-true (f .result)
     (c .before .before .before .before .before .before .before .before .before .before .before .if1 .taken)) in (
       search needs,
-      lot-drawn _ (lp .draw) _ _ (lp .went) _ (put .result .at) _ (lp .inv .1) on (put .ensures .0) (put .ensures .1)
+      lot-drawn _ (lp .run) _ _ (lp .went) _ (put .result .at) _ (lp .inv .1) on (put .ensures .0) (put .ensures .1)
           (c .before .write-whole .ensures),
     )
 
@@ -61,8 +61,8 @@ returns c =
     let lp = c .before .before .before .before .before .before .loop in
     let f = c .before .before .before .before .before .has-failed in
     let on = not-failed (lp .went .kind) (f .result) (f .ensures) (not-true (f .result) (c .before .before .before .before .if1 .taken)) in
-    let none = ltb-false 0 (lp .draw .left) (c .if3 .left) in
-    out-of-draws _ (lp .draw) _ (lp .went) (lp .inv .1) (inr (on, λ _. omega (arith, none)))
+    let none = ltb-false 0 (lp .run .left) (c .if3 .left) in
+    out-of-draws _ (lp .run) _ (lp .went) (lp .inv .1) (inr (on, λ _. omega (arith, none)))
 
 same-length-2 : tie.Need-same-length-2 Inv-loop μ-loop
 same-length-2 c = search needs
@@ -72,7 +72,7 @@ returns-2 c =
     let lp = c .before .before .before .before .loop in
     let f = c .before .before .before .has-failed in
     let on = not-failed (lp .went .kind) (f .result) (f .ensures) (not-true (f .result) (c .before .before .if1 .taken)) in
-    out-of-draws _ (lp .draw) _ (lp .went) (lp .inv .1) (inr (on, λ s. absurd (eqb-false (lp .draw .stage) 2 (c .if2 .left) s)))
+    out-of-draws _ (lp .run) _ (lp .went) (lp .inv .1) (inr (on, λ s. absurd (eqb-false (lp .run .stage) 2 (c .if2 .left) s)))
 
 same-length-3 : tie.Need-same-length-3 Inv-loop μ-loop
 same-length-3 c = search needs
@@ -81,7 +81,7 @@ returns-3 : tie.Need-returns-3 Inv-loop μ-loop
 returns-3 c =
     let lp = c .before .before .loop in
     let f = c .before .has-failed in
-    out-of-draws _ (lp .draw) _ (lp .went) (lp .inv .1) (inl (failed (lp .went .kind) (f .result) (f .ensures) (not-false (f .result) (c .if1 .left))))
+    out-of-draws _ (lp .run) _ (lp .went) (lp .inv .1) (inl (failed (lp .went .kind) (f .result) (f .ensures) (not-false (f .result) (c .if1 .left))))
 
 pub all-draws-spec : {M : Type 1} → statement M
 all-draws-spec =

@@ -2,7 +2,7 @@
 use borrow.Author.Needs.{needs}
 use mathlib.Core.Path.{subst}
 use mathlib.Core.List.{[]}
-use Rattle.session_stage.specs.declared.Draw.{Draw}
+use Rattle.session_stage.specs.declared.DrawRun.{DrawRun}
 use Rattle.session_draw.specs.Draw.{end-text, some-text, printed}
 use Rattle.programs_flow.specs.Loops.{Concluded}
 use Rattle.programs_flow.proofs.Turns.{not-failed, nothing-more, took-text, then-more}
@@ -47,7 +47,7 @@ returns-2 c =
     let w = c .before .before .before .before .before .before .before .write-whole in
     let took = took-text (end-text _) _ (put .result .at) (read .kind) read (w .result) (put .ensures .1) (w .ensures .1) in
     let all = c .before .before .all-draws in
-    then-more (end-text _) _ read (w .result) (all .result) on took (subst (λ (d : Draw). Concluded (some-text (d .left) d) (w .result) (all .result))
+    then-more (end-text _) _ read (w .result) (all .result) on took (subst (λ (d : DrawRun). Concluded (some-text (d .left) d) (w .result) (all .result))
     (put .ensures .0) (all .ensures))
 
 pub conclude-spec : {M : Type 1} → statement M

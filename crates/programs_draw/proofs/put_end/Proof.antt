@@ -3,7 +3,7 @@ use borrow.Author.Needs.{needs}
 use Prim.Native.Nat.{_*_}
 use native.Mathlib.Omega.{arith}
 use mathlib.Core.Path.{ap, _∙_}
-use Rattle.session_draw.specs.declared.Drew.{Drew}
+use Rattle.session_draw.specs.declared.Printed.{Printed}
 use Rattle.programs_flow.proofs.Rooms.{with-room, put-front}
 use Rattle.programs_draw.proofs.put_end.Statement.{statement}
 use Rattle.programs_draw.proofs.put_end.Tie as tie
@@ -21,7 +21,7 @@ returns c =
     let f = c .before .before .finish in
     let e = f .ensures .0 ∙ with-room (192 * 2) (a .out .now) _ _ (omega (arith, pre)) in
     let l = f .ensures .1 ∙ with-room (192 * 2) (a .out .now) _ _ (omega (arith, pre)) in
-    (ap (λ (x : Drew). x .draw) e, put-front _ _ _ _ l (ap (λ (x : Drew). x .at) e) (f .ensures .2 .0), f .ensures .2)
+    (ap (λ (x : Printed). x .run) e, put-front _ _ _ _ l (ap (λ (x : Printed). x .at) e) (f .ensures .2 .0), f .ensures .2)
 
 pub put-end-spec : {M : Type 1} → statement M
 put-end-spec = tie.close (tie.spec finish-requires same-length returns)

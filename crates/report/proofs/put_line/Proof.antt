@@ -8,8 +8,8 @@ use Rattle.report.proofs.put_line.Tie as tie
 put-word-requires : tie.Need-put-word-requires
 put-word-requires c κs = search needs
 
-takes-a-requires : tie.Need-takes-a-requires
-takes-a-requires c κs = search needs
+writes-a-requires : tie.Need-writes-a-requires
+writes-a-requires c κs = search needs
 
 cast-put-operand : tie.Need-cast-put-operand
 cast-put-operand c = search needs
@@ -43,10 +43,10 @@ returns c =
     let at-operand2 = at-takes-value .before .before .before .before in
     let at-takes-b = at-operand2 .before .before in
     let at-operand = at-takes-b .before .before .before .before in
-    let at-takes-a = at-operand .before .before in
-    let at-word = at-takes-a .before .before .before .before in
+    let at-writes-a = at-operand .before .before in
+    let at-word = at-writes-a .before .before .before .before in
     then (at-word .put-word .ensures)
-    (then (rw (at-takes-a .takes-a .ensures) at (at-operand .put-operand .ensures))
+    (then (rw (at-writes-a .writes-a .ensures) at (at-operand .put-operand .ensures))
     (then (rw (at-takes-b .takes-b .ensures) at (at-operand2 .put-operand2 .ensures))
     (rw (at-takes-value .takes-value .ensures) at (at-operand3 .put-operand3 .ensures))))
 
@@ -55,7 +55,7 @@ put-line-spec =
     tie.close
     (tie.spec
     put-word-requires
-    takes-a-requires
+    writes-a-requires
     cast-put-operand
     put-operand-requires
     takes-b-requires

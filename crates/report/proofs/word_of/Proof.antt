@@ -40,12 +40,7 @@ returns-11 c = (rw (first-word (c .before .before .before .before .args .op) (c 
 
 returns-12 : tie.Need-returns-12
 returns-12 c = (
-  no-word (c .before .before .before .before .args .op) (c .before .before .if1 .left)
-      (c .before .before .before .match .rest .0 .0 .0 .0 .0 .0 .0 .0 .0 .1) (c .before .before .before .match .rest .0 .0 .0 .0 .0 .0 .0 .0 .1)
-      (c .before .before .before .match .rest .0 .0 .0 .0 .0 .0 .0 .1) (c .before .before .before .match .rest .0 .0 .0 .0 .0 .0 .1)
-      (c .before .before .before .match .rest .0 .0 .0 .0 .0 .1) (c .before .before .before .match .rest .0 .0 .0 .0 .1)
-      (c .before .before .before .match .rest .0 .0 .0 .1) (c .before .before .before .match .rest .0 .0 .1) (c .before .before .before .match .rest .0 .1)
-      (c .before .before .before .match .rest .1),
+  no-word (c .before .before .before .before .args .op) (c .before .before .if1 .left) (c .before .before .before .match .rest),
   omega arith,
   refl,
 )

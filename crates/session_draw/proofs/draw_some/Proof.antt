@@ -10,14 +10,14 @@ course-of-requires c κs = search needs
 draw-through-requires : tie.Need-draw-through-requires
 draw-through-requires c κs = search needs
 
-drew-of-requires : tie.Need-drew-of-requires
-drew-of-requires c κs = search needs
+printed-of-requires : tie.Need-printed-of-requires
+printed-of-requires c κs = search needs
 
 same-length : tie.Need-same-length
 same-length c = search needs
 
 returns : tie.Need-returns
-returns c = let t = c .before .before .before in rw (c .drew-of .ensures) (rw (t .before .before .course-of .ensures) at (t .draw-through .ensures))
+returns c = let t = c .before .before .before in rw (c .printed-of .ensures) (rw (t .before .before .course-of .ensures) at (t .draw-through .ensures))
 
 pub draw-some-spec : {M : Type 1} → statement M
-draw-some-spec = tie.close (tie.spec course-of-requires draw-through-requires drew-of-requires same-length returns)
+draw-some-spec = tie.close (tie.spec course-of-requires draw-through-requires printed-of-requires same-length returns)

@@ -6,23 +6,23 @@ use borrow.Author.Needs.{needs}
 use lib.ListN.{length}
 use Rattle.kernel.specs.declared.Kernel.{Kernel}
 use Rattle.kernel.specs.Step.{tables}
-use Rattle.session_stage.specs.declared.Draw.{Draw}
-use Rattle.session_stage.specs.Stage.{as-draw}
+use Rattle.session_stage.specs.declared.DrawRun.{DrawRun}
+use Rattle.session_stage.specs.Stage.{as-run}
 use Rattle.session_draw.proofs.Drawing.{Going, going-first, going-again, all-drawn, no-room-for, is-idle, not-idle, none-asked, is-drawn}
 use Rattle.session_draw.proofs.draw_through.Statement.{statement}
 use Rattle.session_draw.proofs.draw_through.Tie as tie
 
 abbrev Inv-loop : tie.InvT-loop
 Inv-loop b₀ r₀ d₀ h₀ w₀ u₀ c₀ q₀ t₀ s₀ course₀ most out₀ at₀ turns₀ b r d h w u c q t s course out at turns =
-    Going (as-draw (tables b₀ r₀ d₀ h₀ w₀ u₀ c₀ q₀ t₀ s₀) course₀) most out₀ (as-draw (tables b r d h w u c q t s) course) at turns out
+    Going (as-run (tables b₀ r₀ d₀ h₀ w₀ u₀ c₀ q₀ t₀ s₀) course₀) most out₀ (as-run (tables b r d h w u c q t s) course) at turns out
     × (192 * most ≤ length out₀)
 
 abbrev μ-loop : tie.MeasureT-loop
 μ-loop b₀ r₀ d₀ h₀ w₀ u₀ c₀ q₀ t₀ s₀ course₀ most out₀ at₀ turns₀ b r d h w u c q t s course out at turns = turns
 
 -- the draw that is begun with; and the tables at the start of a turn
-abbrev begun-with : tie.Start Inv-loop μ-loop → Draw
-begun-with s = as-draw (tables (s .args .base .now) (s .args .ready .now) (s .args .delayed .now) (s .args .held .now) (s .args .way .now) (s .args .until .now)
+abbrev begun-with : tie.Start Inv-loop μ-loop → DrawRun
+begun-with s = as-run (tables (s .args .base .now) (s .args .ready .now) (s .args .delayed .now) (s .args .held .now) (s .args .way .now) (s .args .until .now)
     (s .args .ceiling .now) (s .args .waiter .now) (s .args .clock .now) (s .args .started .now)) (s .args .course)
 
 abbrev lent : tie.At-loop Inv-loop μ-loop → Kernel
@@ -52,7 +52,7 @@ returns-3 c =
     let turn = c .before .before .before .before in
     let lp = turn .loop in
     let s = turn .before .before .before .before in
-    let d = as-draw (lent turn) (lp .course) in
+    let d = as-run (lent turn) (lp .course) in
     all-drawn (begun-with s) (s .args .most) (s .args .out .now) d (lp .at) (lp .turns) (lp .out) (lp .inv .0) (is-idle d (c .if3 .taken) (lp .turns))
     (lp .inv .1)
 
@@ -73,17 +73,20 @@ put-draw-line-requires c κs = search needs
 
 past-requires : tie.Need-past-requires Inv-loop μ-loop
 past-requires c κs =
-    let test = c .before .before .before .before .before .before .before .before .before .before .before .before .before .before .before .before .before .before .before .before in
+    let half = c .before .before .before .before .before .before .before .before .before .before in
+    let test = half .before .before .before .before .before .before .before .before .before .before in
     let lp = test .before .before .before .before .loop in
     not-idle (lp .course .stage) (lp .course .left) (test .if3 .left) .1
 
 sub-turns : tie.Need-sub-turns Inv-loop μ-loop
 sub-turns c =
-    omega (arith, c .before .before .before .before .before .before .before .before .before .before .before .before .before .before .before .before .before .before .before .before .before .before .before .before .loop-test .taken)
+    let half = c .before .before .before .before .before .before .before .before .before .before .before .before in
+    omega (arith, half .before .before .before .before .before .before .before .before .before .before .before .before .loop-test .taken)
 
 loop-less : tie.Need-loop-less Inv-loop μ-loop
 loop-less c =
-    omega (arith, c .before .before .before .before .before .before .before .before .before .before .before .before .before .before .before .before .before .before .before .before .before .before .before .before .loop-test .taken)
+    let half = c .before .before .before .before .before .before .before .before .before .before .before .before in
+    omega (arith, half .before .before .before .before .before .before .before .before .before .before .before .before .loop-test .taken)
 
 loop-again : tie.Need-loop-again Inv-loop μ-loop
 loop-again c =
@@ -100,7 +103,7 @@ loop-again c =
     let drawn = is-drawn (lent turn) _ (lp .course) (number .following .result) (line .row-of .result) (number .following .ensures) (step .result) (draws .0)
     (draws .1) (step .ensures) row in (
       rw (c .past .ensures)
-          (going-again (begun-with s) (s .args .most) (s .args .out .now) (as-draw (lent turn) (lp .course)) (lp .at) (lp .turns) (lp .out) (lp .inv .0)
+          (going-again (begun-with s) (s .args .most) (s .args .out .now) (as-run (lent turn) (lp .course)) (lp .at) (lp .turns) (lp .out) (lp .inv .0)
           (put .result) _ (put .last .0)
           drawn (put .ensures .0) (put .ensures .1) (test .before .before .before .loop-test .taken)),
       lp .inv .1,
@@ -113,7 +116,7 @@ returns-4 : tie.Need-returns-4 Inv-loop μ-loop
 returns-4 c =
     let lp = c .before .loop in
     let s = c .before .before .before .before .before in
-    let d = as-draw (lent (c .before)) (lp .course) in
+    let d = as-run (lent (c .before)) (lp .course) in
     all-drawn (begun-with s) (s .args .most) (s .args .out .now) d (lp .at) (lp .turns) (lp .out) (lp .inv .0)
     (none-asked d (lp .turns) (c .loop-test .left)) (lp .inv .1)
 

@@ -20,8 +20,8 @@ end-requires c κs = search needs
 put-shown-requires : tie.Need-put-shown-requires
 put-shown-requires c κs = search needs
 
-draw-of-requires : tie.Need-draw-of-requires
-draw-of-requires c κs = search needs
+run-of-requires : tie.Need-run-of-requires
+run-of-requires c κs = search needs
 
 same-length : tie.Need-same-length
 same-length c = search needs
@@ -32,9 +32,9 @@ returns-2 c =
     let close = c .before .before .before .before .before .before in
     let last = close .before .before .before .before .before .before in
     let a = last .before .before .before .before .args in
-    let d = last .last-line .result .reader .draw in
+    let d = last .last-line .result .reader .run in
     let e = rw (close .before .course-of .ensures) at (close .end .ensures (d .kernel)) in
-    rw (c .draw-of .ensures)
+    rw (c .run-of .ensures)
     (both-put (a .r) (a .out .now) (as-moved (d .kernel) (close .end .result)) d (last .last-line .result .at) (put .result) (last .last-line .last .1 .0)
     (put .last .0)
     (last .last-line .ensures) e (put .ensures .0) (put .ensures .1) (last .before .before .if1 .left))
@@ -48,6 +48,6 @@ finish-spec =
     course-of-requires
     end-requires
     put-shown-requires
-    draw-of-requires
+    run-of-requires
     same-length
     returns-2)

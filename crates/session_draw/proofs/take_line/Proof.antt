@@ -4,7 +4,7 @@ use borrow.Author.Tests.{eq-eqb, ne-eqb}
 use borrow.Author.Needs.{needs}
 use Rattle.kernel.specs.declared.Kernel.{Kernel}
 use Rattle.kernel.specs.Step.{tables}
-use Rattle.session_stage.specs.Stage.{as-draw, moved, opened, set-up}
+use Rattle.session_stage.specs.Stage.{as-run, moved, opened, set-up}
 use Rattle.session_draw.proofs.Drawing.{is-set-up}
 use Rattle.session_draw.proofs.take_line.Statement.{statement}
 use Rattle.session_draw.proofs.take_line.Tie as tie
@@ -25,7 +25,7 @@ returns c =
     let s = c .before .before .before .before in
     let a = s .args .c in
     rw (eq-eqb (a .stage) 0 (c .before .before .if1 .taken))
-    (c .opened .ensures (lent s) ∙ ap (opened (as-draw (lent s) a)) (c .before .held-first-line .ensures))
+    (c .opened .ensures (lent s) ∙ ap (opened (as-run (lent s) a)) (c .before .held-first-line .ensures))
 
 not-moved-requires : tie.Need-not-moved-requires
 not-moved-requires c κs = search needs
@@ -60,7 +60,7 @@ returns-3 c =
     let up = is-set-up (lent s) _ a (number .following .result) (told .carry-out .result) (number .following .ensures) (line .held-command .result)
     (told .carry-out .ensures) in
     rw (ne-eqb (a .stage) 0 (number .before .before .before .if1 .left), eq-eqb (a .stage) 1 (number .before .if2 .left))
-    (c .set-up .ensures _ ∙ up ∙ ap (set-up (as-draw (lent s) a)) (line .held-command .ensures))
+    (c .set-up .ensures _ ∙ up ∙ ap (set-up (as-run (lent s) a)) (line .held-command .ensures))
 
 pub take-line-spec : {M : Type 1} → statement M
 take-line-spec =

@@ -9,7 +9,7 @@ use lib.ListN.{length}
 use Rattle.kernel.specs.declared.Kernel.{Kernel}
 use Rattle.kernel.specs.Step.{tables}
 use Rattle.session_draw.specs.declared.Reader.{Reader}
-use Rattle.session_stage.specs.Stage.{as-draw, as-moved}
+use Rattle.session_stage.specs.Stage.{as-run, as-moved}
 use Rattle.session_draw.specs.Draw.{as-reader}
 use Rattle.session.proofs.Cuts.{cuts-part, holds-part, cuts-none, holds-none}
 use Rattle.session_draw.proofs.Drawing.{Still, still-first, still-again, all-taken, no-room}
@@ -18,7 +18,7 @@ use Rattle.session_draw.proofs.take_lines.Tie as tie
 
 abbrev Inv-loop : tie.InvT-loop
 Inv-loop b₀ r₀ d₀ h₀ w₀ u₀ c₀ q₀ t₀ s₀ course₀ kept₀ piece out₀ at₀ from₀ left₀ b r d h w u c q t s course kept out at from left =
-    Still (as-reader (tables b₀ r₀ d₀ h₀ w₀ u₀ c₀ q₀ t₀ s₀) course₀ kept₀) piece out₀ (as-draw (tables b r d h w u c q t s) course) kept from at left out
+    Still (as-reader (tables b₀ r₀ d₀ h₀ w₀ u₀ c₀ q₀ t₀ s₀) course₀ kept₀) piece out₀ (as-run (tables b r d h w u c q t s) course) kept from at left out
     × (192 * suc (length piece) ≤ length out₀)
 
 abbrev μ-loop : tie.MeasureT-loop
@@ -74,7 +74,7 @@ returns-3 c =
     let p = s .args .piece .now in
     let o = c .before .before .before .before .loop-test .taken in
     let n = not-true (cut .result .whole) (c .if3 .taken) in
-    all-taken (begun-with s) p (s .args .out .now) (as-draw (lent turn) (lp .course)) (lp .kept) (lp .from) (lp .at) (lp .left) (lp .out) (lp .inv .0)
+    all-taken (begun-with s) p (s .args .out .now) (as-run (lent turn) (lp .course)) (lp .kept) (lp .from) (lp .at) (lp .left) (lp .out) (lp .inv .0)
     (cut .result .held)
     (cuts-part (lp .kept) p (lp .from) (cut .result) (cut .ensures) (lp .left) o n)
     (holds-part (lp .kept) p (lp .from) (cut .result) (cut .ensures) (lp .left) o n) (lp .inv .1)
@@ -90,11 +90,13 @@ held-none-requires c κs = search needs
 
 sub-left : tie.Need-sub-left Inv-loop μ-loop
 sub-left c =
-    omega (arith, c .before .before .before .before .before .before .before .before .before .before .before .before .before .before .before .before .before .before .before .before .before .loop-test .taken)
+    let half = c .before .before .before .before .before .before .before .before .before .before .before in
+    omega (arith, half .before .before .before .before .before .before .before .before .before .before .loop-test .taken)
 
 loop-less : tie.Need-loop-less Inv-loop μ-loop
 loop-less c =
-    omega (arith, c .before .before .before .before .before .before .before .before .before .before .before .before .before .before .before .before .before .before .before .before .before .loop-test .taken)
+    let half = c .before .before .before .before .before .before .before .before .before .before .before in
+    omega (arith, half .before .before .before .before .before .before .before .before .before .before .loop-test .taken)
 
 loop-again : tie.Need-loop-again Inv-loop μ-loop
 loop-again c =
@@ -105,7 +107,7 @@ loop-again c =
     let turn = whole .before .before .before .before .before in
     let lp = turn .loop in
     let s = turn .before .before .before .before .before in (
-      still-again (begun-with s) (s .args .piece .now) (s .args .out .now) (as-draw (lent turn) (lp .course)) (lp .kept) (lp .from) (lp .at) (lp .left)
+      still-again (begun-with s) (s .args .piece .now) (s .args .out .now) (as-run (lent turn) (lp .course)) (lp .kept) (lp .from) (lp .at) (lp .left)
           (lp .out) (lp .inv .0)
           (cut .result) (cut .ensures) (put .result) (as-moved _ (line .take-line .result)) (put .last .0) (c .held-none .result) (line .take-line .ensures)
           (put .ensures .0) (put .ensures .1)
@@ -121,7 +123,7 @@ returns-4 c =
     let lp = c .before .loop in
     let s = c .before .before .before .before .before .before in
     let p = s .args .piece .now in
-    all-taken (begun-with s) p (s .args .out .now) (as-draw (lent (c .before)) (lp .course)) (lp .kept) (lp .from) (lp .at) (lp .left) (lp .out) (lp .inv .0)
+    all-taken (begun-with s) p (s .args .out .now) (as-run (lent (c .before)) (lp .course)) (lp .kept) (lp .from) (lp .at) (lp .left) (lp .out) (lp .inv .0)
     (lp .kept)
     (cuts-none (lp .kept) p (lp .from) (lp .left) (c .loop-test .left))
     (holds-none (lp .kept) p (lp .from) (lp .left) (c .loop-test .left)) (lp .inv .1)

@@ -1,117 +1,20 @@
--- `text_command::op_of` meets its contract: eleven words, the last tried first. Assumes nothing.
+-- `text_command::op_of` meets its contract: the words of the text are those of the definition, by computing. Assumes nothing.
 use borrow.Author.Needs.{needs}
-use Rattle.text_command.proofs.Reading.{word-named}
+use Rattle.text.specs.Words.{before, onward}
+use Rattle.text.specs.Commands.{op-named}
+use Rattle.text_command.specs.Method.{words-in}
 use Rattle.text_command.proofs.op_of.Statement.{statement}
 use Rattle.text_command.proofs.op_of.Tie as tie
 
-slice-aggregate-named : tie.Need-slice-aggregate-named
-slice-aggregate-named c = search needs
+slice-aggregate-number-among : tie.Need-slice-aggregate-number-among
+slice-aggregate-number-among c = search needs
 
-named-requires : tie.Need-named-requires
-named-requires c κs = search needs
-
-slice-aggregate-named-2 : tie.Need-slice-aggregate-named-2
-slice-aggregate-named-2 c = search needs
-
-named-requires-2 : tie.Need-named-requires-2
-named-requires-2 c κs = search needs
-
-slice-aggregate-named-3 : tie.Need-slice-aggregate-named-3
-slice-aggregate-named-3 c = search needs
-
-named-requires-3 : tie.Need-named-requires-3
-named-requires-3 c κs = search needs
-
-slice-aggregate-named-4 : tie.Need-slice-aggregate-named-4
-slice-aggregate-named-4 c = search needs
-
-named-requires-4 : tie.Need-named-requires-4
-named-requires-4 c κs = search needs
-
-slice-aggregate-named-5 : tie.Need-slice-aggregate-named-5
-slice-aggregate-named-5 c = search needs
-
-named-requires-5 : tie.Need-named-requires-5
-named-requires-5 c κs = search needs
-
-slice-aggregate-named-6 : tie.Need-slice-aggregate-named-6
-slice-aggregate-named-6 c = search needs
-
-named-requires-6 : tie.Need-named-requires-6
-named-requires-6 c κs = search needs
-
-slice-aggregate-named-7 : tie.Need-slice-aggregate-named-7
-slice-aggregate-named-7 c = search needs
-
-named-requires-7 : tie.Need-named-requires-7
-named-requires-7 c κs = search needs
-
-slice-aggregate-named-8 : tie.Need-slice-aggregate-named-8
-slice-aggregate-named-8 c = search needs
-
-named-requires-8 : tie.Need-named-requires-8
-named-requires-8 c κs = search needs
-
-slice-aggregate-named-9 : tie.Need-slice-aggregate-named-9
-slice-aggregate-named-9 c = search needs
-
-named-requires-9 : tie.Need-named-requires-9
-named-requires-9 c κs = search needs
-
-slice-aggregate-named-10 : tie.Need-slice-aggregate-named-10
-slice-aggregate-named-10 c = search needs
-
-named-requires-10 : tie.Need-named-requires-10
-named-requires-10 c κs = search needs
-
-slice-aggregate-named-11 : tie.Need-slice-aggregate-named-11
-slice-aggregate-named-11 c = search needs
-
-named-requires-11 : tie.Need-named-requires-11
-named-requires-11 c κs = search needs
+number-among-requires : tie.Need-number-among-requires
+number-among-requires c κs = search needs
 
 returns : tie.Need-returns
-returns c =
-    word-named (c .before .before .before .before .before .before .before .before .before .before .before .before .before .before .before .before .before .before .before .before .before .before .before .args .word .now)
-    (c .named11 .result) (c .before .before .named10 .result) (c .before .before .before .before .named9 .result)
-    (c .before .before .before .before .before .before .named8 .result) (c .before .before .before .before .before .before .before .before .named7 .result)
-    (c .before .before .before .before .before .before .before .before .before .before .named6 .result)
-    (c .before .before .before .before .before .before .before .before .before .before .before .before .named5 .result)
-    (c .before .before .before .before .before .before .before .before .before .before .before .before .before .before .named4 .result)
-    (c .before .before .before .before .before .before .before .before .before .before .before .before .before .before .before .before .named3 .result)
-    (c .before .before .before .before .before .before .before .before .before .before .before .before .before .before .before .before .before .before .named2 .result) (c .before .before .before .before .before .before .before .before .before .before .before .before .before .before .before .before .before .before .before .before .named .result)
-    (c .named11 .ensures) (c .before .before .named10 .ensures) (c .before .before .before .before .named9 .ensures)
-    (c .before .before .before .before .before .before .named8 .ensures) (c .before .before .before .before .before .before .before .before .named7 .ensures)
-    (c .before .before .before .before .before .before .before .before .before .before .named6 .ensures)
-    (c .before .before .before .before .before .before .before .before .before .before .before .before .named5 .ensures)
-    (c .before .before .before .before .before .before .before .before .before .before .before .before .before .before .named4 .ensures)
-    (c .before .before .before .before .before .before .before .before .before .before .before .before .before .before .before .before .named3 .ensures)
-    (c .before .before .before .before .before .before .before .before .before .before .before .before .before .before .before .before .before .before .named2 .ensures) (c .before .before .before .before .before .before .before .before .before .before .before .before .before .before .before .before .before .before .before .before .named .ensures)
+unfolding op-named words-in before onward
+returns c = c .number-among .ensures
 
 pub op-of-spec : {M : Type 1} → statement M
-op-of-spec =
-    tie.close
-    (tie.spec
-    slice-aggregate-named
-    named-requires
-    slice-aggregate-named-2
-    named-requires-2
-    slice-aggregate-named-3
-    named-requires-3
-    slice-aggregate-named-4
-    named-requires-4
-    slice-aggregate-named-5
-    named-requires-5
-    slice-aggregate-named-6
-    named-requires-6
-    slice-aggregate-named-7
-    named-requires-7
-    slice-aggregate-named-8
-    named-requires-8
-    slice-aggregate-named-9
-    named-requires-9
-    slice-aggregate-named-10
-    named-requires-10
-    slice-aggregate-named-11
-    named-requires-11
-    returns)
+op-of-spec = tie.close (tie.spec slice-aggregate-number-among number-among-requires returns)

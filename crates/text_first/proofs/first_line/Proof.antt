@@ -45,13 +45,19 @@ refuse-requires c κs = search needs
 
 returns : tie.Need-returns
 returns c =
-    c .refuse .ensures ∙ rw (not-true (leb (length (c .before .before .before .before .before .before .before .before .before .before .before .args .line .now)) 128 && c .before .before .before .before .before .before .before .before .next-text .result .valid && ltb (c .before .before .before .before .before .before .before .before .next-text .result .next) (c .before .before .before .before .before .before .before .find .result) && c .before .before .before .before .before .before .read-settings .result .valid) (c .before .if1 .taken)) at (first-read (c .before .before .before .before .before .before .before .before .before .before .before .args .line .now) (c .before .before .before .before .before .before .before .before .next-text .result) (c .before .before .before .before .before .before .before .find .result) (c .before .before .before .before .before .before .read-settings .result) (c .before .before .before .before .seed-text .result)
-    (c .before .before .before .before .before .before .before .before .next-text .ensures)
-    (c .before .before .before .before .before .before .before .find .ensures) (c .before .before .before .before .before .before .read-settings .ensures)
-    (c .before .before .before .before .seed-text .ensures))
+    let at-seed = c .before .before .before .before in
+    let text = at-seed .before .before .before .before .next-text in
+    let end = at-seed .before .before .before .find in
+    let rest = at-seed .before .before .read-settings in
+    let line = at-seed .before .before .before .before .before .before .before .args .line .now in
+    c .refuse .ensures ∙ rw (not-true
+    (leb (length line) 128 && text .result .valid && ltb (text .result .next) (end .result) && rest .result .valid)
+    (c .before .if1 .taken)) at
+    (first-read line (text .result) (end .result) (rest .result) (at-seed .seed-text .result)
+    (text .ensures) (end .ensures) (rest .ensures) (at-seed .seed-text .ensures))
 
-is-fair-requires : tie.Need-is-fair-requires
-is-fair-requires c κs = search needs
+is-good-requires : tie.Need-is-good-requires
+is-good-requires c κs = search needs
 
 judge-requires : tie.Need-judge-requires
 judge-requires c κs = search needs
@@ -61,36 +67,39 @@ refuse-requires-2 c κs = search needs
 
 returns-2 : tie.Need-returns-2
 returns-2 c =
+    let at-seed = c .before .before .before .before .before .before .before .before in
+    let text = at-seed .before .before .before .before .next-text in
+    let end = at-seed .before .before .before .find in
+    let rest = at-seed .before .before .read-settings in
+    let line = at-seed .before .before .before .before .before .before .before .args .line .now in
     c .refuse2 .ensures ∙ rw (
-      not-false (leb (length
-          (c .before .before .before .before .before .before .before .before .before .before .before .before .before .before .before .args .line .now))
-          128 && c .before .before .before .before .before .before .before .before .before .before .before .before .next-text .result .valid && ltb
-          (c .before .before .before .before .before .before .before .before .before .before .before .before .next-text .result .next)
-          (c .before .before .before .before .before .before .before .before .before .before .before .find .result)
-          && c .before .before .before .before .before .before .before .before .before .before .read-settings .result .valid)
+      not-false
+          (leb (length line) 128 && text .result .valid && ltb (text .result .next) (end .result) && rest .result .valid)
           (c .before .before .before .before .before .if1 .left),
-      ← c .before .before .before .is-fair .ensures,
+      ← c .before .before .before .is-good .ensures,
       ← c .before .before .judge .ensures,
-      ne-eqb
-          (c .before .before .judge .result) 0 (c .before .if2 .taken),
-    ) at (first-read
-    (c .before .before .before .before .before .before .before .before .before .before .before .before .before .before .before .args .line .now)
-    (c .before .before .before .before .before .before .before .before .before .before .before .before .next-text .result)
-    (c .before .before .before .before .before .before .before .before .before .before .before .find .result)
-    (c .before .before .before .before .before .before .before .before .before .before .read-settings .result)
-    (c .before .before .before .before .before .before .before .before .seed-text .result)
-    (c .before .before .before .before .before .before .before .before .before .before .before .before .next-text .ensures)
-    (c .before .before .before .before .before .before .before .before .before .before .before .find .ensures)
-    (c .before .before .before .before .before .before .before .before .before .before .read-settings .ensures)
-    (c .before .before .before .before .before .before .before .before .seed-text .ensures))
+      ne-eqb (c .before .before .judge .result) 0 (c .before .if2 .taken),
+    ) at
+    (first-read line (text .result) (end .result) (rest .result) (at-seed .seed-text .result)
+    (text .ensures) (end .ensures) (rest .ensures) (at-seed .seed-text .ensures))
 
 returns-3 : tie.Need-returns-3
 returns-3 c =
-    rw (not-false (leb (length (c .before .before .before .before .before .before .before .before .before .before .before .before .before .before .args .line .now)) 128 && c .before .before .before .before .before .before .before .before .before .before .before .next-text .result .valid && ltb (c .before .before .before .before .before .before .before .before .before .before .before .next-text .result .next) (c .before .before .before .before .before .before .before .before .before .before .find .result) && c .before .before .before .before .before .before .before .before .before .read-settings .result .valid) (c .before .before .before .before .if1 .left), ← c .before .before .is-fair .ensures, ← c .before .judge .ensures, eq-eqb (c .before .judge .result) 0 (c .if2 .left)) at (first-read (c .before .before .before .before .before .before .before .before .before .before .before .before .before .before .args .line .now) (c .before .before .before .before .before .before .before .before .before .before .before .next-text .result) (c .before .before .before .before .before .before .before .before .before .before .find .result) (c .before .before .before .before .before .before .before .before .before .read-settings .result) (c .before .before .before .before .before .before .before .seed-text .result)
-    (c .before .before .before .before .before .before .before .before .before .before .before .next-text .ensures)
-    (c .before .before .before .before .before .before .before .before .before .before .find .ensures)
-    (c .before .before .before .before .before .before .before .before .before .read-settings .ensures)
-    (c .before .before .before .before .before .before .before .seed-text .ensures))
+    let at-seed = c .before .before .before .before .before .before .before in
+    let text = at-seed .before .before .before .before .next-text in
+    let end = at-seed .before .before .before .find in
+    let rest = at-seed .before .before .read-settings in
+    let line = at-seed .before .before .before .before .before .before .before .args .line .now in
+    rw (
+      not-false
+          (leb (length line) 128 && text .result .valid && ltb (text .result .next) (end .result) && rest .result .valid)
+          (c .before .before .before .before .if1 .left),
+      ← c .before .before .is-good .ensures,
+      ← c .before .judge .ensures,
+      eq-eqb (c .before .judge .result) 0 (c .if2 .left),
+    ) at
+    (first-read line (text .result) (end .result) (rest .result) (at-seed .seed-text .result)
+    (text .ensures) (end .ensures) (rest .ensures) (at-seed .seed-text .ensures))
 
 pub first-line-spec : {M : Type 1} → statement M
 first-line-spec =
@@ -106,7 +115,7 @@ first-line-spec =
     seed-text-requires
     refuse-requires
     returns
-    is-fair-requires
+    is-good-requires
     judge-requires
     refuse-requires-2
     returns-2

@@ -36,23 +36,33 @@ next-decimal-requires-2 c κs = search needs
 
 cast-t34 : tie.Need-cast-t34
 cast-t34 c =
-    let s = c .before .before .before .before .before .before .before .before .before .before .before .before .before .before .before .before .before .before .before .before .args .line .now in
-    omega (arith, value-bound s (c .before .before .before .before .before .before .before .before .before .before .before .before .before .before .before .before .next-decimal .result) word-most (drop (c .before .before .before .before .before .before .before .before .before .before .before .before .before .before .before .before .before .next-text .result .next) s) (c .before .before .before .before .before .before .before .before .before .before .before .before .before .before .before .before .next-decimal .ensures))
+    let at-span = c .before .before .before .before .before .before .before .before .before .before .before .before .before .before .before .before in
+    let line = at-span .before .before .before .before .args .line .now in
+    let span = at-span .next-decimal in
+    omega (arith, value-bound line (span .result) word-most (drop (at-span .before .next-text .result .next) line) (span .ensures))
 
 cast-t35 : tie.Need-cast-t35
 cast-t35 c =
-    let s = c .before .before .before .before .before .before .before .before .before .before .before .before .before .before .before .before .before .before .before .before .before .args .line .now in
-    omega (
-      arith,
-      value-bound s (c .before .before .before .before .before .before .before .before .before .before .before .next-decimal2 .result) 100000
-          (drop (c .before .before .before .before .before .before .before .before .before .before .before .before .next-text3 .result .next) s)
-          (c .before .before .before .before .before .before .before .before .before .before .before .next-decimal2 .ensures),
-    )
+    let at-count = c .before .before .before .before .before .before .before .before .before .before .before in
+    let line = at-count .before .before .before .before .before .before .before .before .before .before .args .line .now in
+    let count = at-count .next-decimal2 in
+    omega (arith, value-bound line (count .result) 100000 (drop (at-count .before .next-text3 .result .next) line) (count .ensures))
 
 returns : tie.Need-returns
 returns c =
-    settings-read (c .before .before .before .before .before .before .before .before .before .before .before .before .before .before .before .before .before .before .before .before .before .args .line .now) (drop (c .before .before .before .before .before .before .before .before .before .before .before .before .before .before .before .before .before .before .before .before .before .args .at) (c .before .before .before .before .before .before .before .before .before .before .before .before .before .before .before .before .before .before .before .before .before .args .line .now)) (c .before .before .before .before .before .before .before .before .before .before .before .before .before .before .before .before .before .before .next-text .result) (c .before .before .before .before .before .before .before .before .before .before .before .before .before .before .before .before .before .next-decimal .result) (c .before .before .before .before .before .before .before .before .before .before .before .before .before .before .before .next-text2 .result) (c .before .before .before .before .before .before .before .before .before .before .before .before .before .before .next-eight .result) (c .before .before .before .before .before .before .before .before .before .before .before .before .next-text3 .result) (c .before .before .before .before .before .before .before .before .before .before .before .next-decimal2 .result)
-    (c .before .before .before .before .before .before .before .before .before .before .before .before .before .before .before .before .before .before .next-text .ensures) (c .before .before .before .before .before .before .before .before .before .before .before .before .before .before .before .before .before .next-decimal .ensures) (c .before .before .before .before .before .before .before .before .before .before .before .before .before .before .before .next-text2 .ensures) (c .before .before .before .before .before .before .before .before .before .before .before .before .before .before .next-eight .ensures) (c .before .before .before .before .before .before .before .before .before .before .before .before .next-text3 .ensures) (c .before .before .before .before .before .before .before .before .before .before .before .next-decimal2 .ensures)
+    let at-count = c .before .before .before .before .before .before .before .before .before .before .before in
+    let at-eight = at-count .before .before .before in
+    let at-span = at-eight .before .before .before in
+    let a = at-span .before .before .before .before .args in
+    let s = at-span .before .next-text in
+    let span = at-span .next-decimal in
+    let w = at-eight .before .next-text2 in
+    let eight = at-eight .next-eight in
+    let k = at-count .before .next-text3 in
+    let count = at-count .next-decimal2 in
+    settings-read (a .line .now) (drop (a .at) (a .line .now))
+    (s .result) (span .result) (w .result) (eight .result) (k .result) (count .result)
+    (s .ensures) (span .ensures) (w .ensures) (eight .ensures) (k .ensures) (count .ensures)
 
 pub read-settings-spec : {M : Type 1} → statement M
 read-settings-spec =

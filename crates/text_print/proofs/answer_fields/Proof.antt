@@ -23,7 +23,11 @@ same-length c = search needs
 returns : tie.Need-returns
 unfolding answer-fields
 returns c =
-    and-then (and-then (and-then (c .before .before .before .before .before .before .before .before .before .before .before .before .before .before .put-small .ensures .0) (c .before .before .before .before .before .before .before .before .before .before .put-small2 .ensures .0)) (c .before .before .before .before .before .before .put-small3 .ensures .0)) (c .before .before .put-field .ensures .0)
+    let last = c .before .before in
+    let third = last .before .before .before .before in
+    let second = third .before .before .before .before in
+    let first = second .before .before .before .before in
+    and-then (and-then (and-then (first .put-small .ensures .0) (second .put-small2 .ensures .0)) (third .put-small3 .ensures .0)) (last .put-field .ensures .0)
 
 pub answer-fields-spec : {M : Type 1} → statement M
 answer-fields-spec =

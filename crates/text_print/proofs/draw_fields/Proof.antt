@@ -29,7 +29,15 @@ same-length c = search needs
 returns : tie.Need-returns
 unfolding draw-line
 returns c =
-    and-then (and-then (and-then (and-then (and-then (c .before .before .before .before .before .before .before .before .before .before .before .before .before .before .before .before .before .before .before .before .before .before .put-field .ensures .0) (c .before .before .before .before .before .before .before .before .before .before .before .before .before .before .before .before .before .before .put-small .ensures .0)) (c .before .before .before .before .before .before .before .before .before .before .before .before .before .before .put-small2 .ensures .0)) (c .before .before .before .before .before .before .before .before .before .before .put-small3 .ensures .0)) (c .before .before .before .before .before .before .put-field2 .ensures .0)) (c .before .before .answer-fields .ensures)
+    let answer = c .before .before in
+    let value = answer .before .before .before .before in
+    let third = value .before .before .before .before in
+    let second = third .before .before .before .before in
+    let first = second .before .before .before .before in
+    let number = first .before .before .before .before in
+    let said = and-then (and-then (and-then (number .put-field .ensures .0) (first .put-small .ensures .0)) (second .put-small2 .ensures .0))
+    (third .put-small3 .ensures .0) in
+    and-then (and-then said (value .put-field2 .ensures .0)) (answer .answer-fields .ensures)
 
 pub draw-fields-spec : {M : Type 1} → statement M
 draw-fields-spec =

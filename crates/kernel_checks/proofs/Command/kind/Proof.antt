@@ -37,19 +37,7 @@ returns-11 : tie.Need-returns-11
 returns-11 c = rw (c .match .keys11)
 
 returns-12 : tie.Need-returns-12
-returns-12 c =
-    let n11 = c .match .rest in
-    let n10 = n11 .0 in
-    let n9 = n10 .0 in
-    let n8 = n9 .0 in
-    let n7 = n8 .0 in
-    let n6 = n7 .0 in
-    let n5 = n6 .0 in
-    let n4 = n5 .0 in
-    let n3 = n4 .0 in
-    let n2 = n3 .0 in
-    let n1 = n2 .0 in
-    no-op (c .before .args .self .op) (n1 .1) (n2 .1) (n3 .1) (n4 .1) (n5 .1) (n6 .1) (n7 .1) (n8 .1) (n9 .1) (n10 .1) (n11 .1)
+returns-12 c = no-op (c .before .args .self .op) (c .match .rest)
 
 pub kind-spec : {M : Type 1} → statement M
 kind-spec =

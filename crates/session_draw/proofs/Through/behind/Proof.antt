@@ -3,11 +3,11 @@ use borrow.Author.Needs.{needs}
 use Rattle.session_draw.proofs.Through.behind.Statement.{statement}
 use Rattle.session_draw.proofs.Through.behind.Tie as tie
 
-draw-of-requires : tie.Need-draw-of-requires
-draw-of-requires c κs = search needs
+run-of-requires : tie.Need-run-of-requires
+run-of-requires c κs = search needs
 
 returns : tie.Need-returns
-returns c = rw (c .draw-of .ensures)
+returns c = rw (c .run-of .ensures)
 
 pub behind-spec : {M : Type 1} → statement M
-behind-spec = tie.close (tie.spec draw-of-requires returns)
+behind-spec = tie.close (tie.spec run-of-requires returns)
