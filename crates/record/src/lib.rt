@@ -3,7 +3,7 @@
 //
 // No public function has a `requires`. specs/ says what each answer is.
 ghost use mathlib.Core.Path.{_≡_};
-ghost use Rattle.record.specs.Form.{headerFields, isSeed, commandFields};
+ghost use Rattle.record.specs.Form.{headerFields, isSeed, inCommand, commandFields};
 ghost use Rattle.record.specs.Form.{headerOf};
 ghost use Rattle.record.specs.Fault.{headerFault, commandFault, faultOf};
 use numbers::choose;
@@ -49,7 +49,8 @@ pub fn header(edition: u8, seed: u64) -> Record
     }
 }
 
-fn header_fields(r: Record) -> bool
+// The fields that make a header, its value aside.
+pub fn header_fields(r: Record) -> bool
     ensures { λ t. ⌜ t ≡ headerFields r ⌝ }
 {
     (r.op == 0)
@@ -60,17 +61,25 @@ fn header_fields(r: Record) -> bool
         & (r.released == 0)
 }
 
+// The fields that make a command record; the others may hold anything.
+pub fn in_command(op: u8, code: u8, running: u8, released: u8) -> bool
+    ensures { λ t. ⌜ t ≡ inCommand op code running released ⌝ }
+{
+    (1 <= op)
+        & (op <= LAST_OP)
+        & (code <= LAST_CODE)
+        & (running <= LAST_TASK)
+        & (released <= LAST_TASK)
+}
+
 fn command_fields(r: Record) -> bool
     ensures { λ t. ⌜ t ≡ commandFields r ⌝ }
 {
-    (1 <= r.op)
-        & (r.op <= LAST_OP)
-        & (r.code <= LAST_CODE)
-        & (r.running <= LAST_TASK)
-        & (r.released <= LAST_TASK)
+    in_command(r.op, r.code, r.running, r.released)
 }
 
-fn is_seed(v: u64) -> bool
+// A seed: a header's value.
+pub fn is_seed(v: u64) -> bool
     ensures { λ t. ⌜ t ≡ isSeed v ⌝ }
 {
     (1 <= v) & (v <= LAST_SEED)

@@ -14,6 +14,8 @@ use Rattle.record_bytes.proofs.number_bytes
 use Rattle.record_bytes.proofs.record_of
 use Rattle.record_bytes.proofs.bytes_of
 use Rattle.record_bytes.proofs.is_marked
+use Rattle.record_bytes.proofs.is_header
+use Rattle.record_bytes.proofs.is_command
 
 module _ {M : Type 1} (𝓤 : URA M) (H : Heap 𝓤) (A : Atoms 𝓤) (mem : Memory → SProp 𝓤) (run : Routine → Fun 𝓤) where
   pub number-of-single : OneAnswer 𝓤 number_of.ended (number_of.clauses 𝓤 H A mem run)
@@ -30,3 +32,9 @@ module _ {M : Type 1} (𝓤 : URA M) (H : Heap 𝓤) (A : Atoms 𝓤) (mem : Mem
 
   pub is-marked-single : OneAnswer 𝓤 is_marked.ended (is_marked.clauses 𝓤 H A mem run)
   is-marked-single κs a g r s d e = one 𝓤 _ _ _
+
+  pub is-header-single : OneAnswer 𝓤 is_header.ended (is_header.clauses 𝓤 H A mem run)
+  is-header-single κs a g r s d e = one 𝓤 _ _ _
+
+  pub is-command-single : OneAnswer 𝓤 is_command.ended (is_command.clauses 𝓤 H A mem run)
+  is-command-single κs a g r s d e = one 𝓤 _ _ _

@@ -4,9 +4,12 @@
 // No public function has a `requires`. What each answer is: crate record, specs/Form.
 ghost use mathlib.Core.Path.{_≡_};
 ghost use lib.ListN.{getD};
-ghost use Rattle.record.specs.Form.{le8, ofLe, bytesOf, recordOf, marked};
+ghost use Rattle.record.specs.Form.{le8, ofLe, bytesOf, recordOf, marked, isHeader, isCommand};
 use numbers::wide;
 use record::Record;
+use record::header_fields;
+use record::in_command;
+use record::is_seed;
 
 // The byte at an index, 0 past the end: so that what is read of too few bytes is fixed too.
 fn byte(p: &[u8], i: usize) -> u8
@@ -105,4 +108,23 @@ pub fn is_marked(p: &[u8]) -> bool
     ensures { λ t. ⌜ t ≡ marked (now (p .entry)) ⌝ }
 {
     (byte(p, 0) == 0x52) & (byte(p, 1) == 0x56)
+}
+
+// 16 bytes are a header: its mark, its fields, and a seed.
+pub fn is_header(p: &[u8]) -> bool
+    ensures { λ t. ⌜ t ≡ isHeader (now (p .entry)) ⌝ }
+{
+    let r = record_of(p);
+    is_marked(p) & header_fields(r) & is_seed(r.value)
+}
+
+// 16 bytes are a command record, read byte by byte, the mark first. No `Record` is made and no value is read: so it is
+// small enough to stand inside a loop that asks it at each byte of a tape.
+pub fn is_command(p: &[u8]) -> bool
+    ensures { λ t. ⌜ t ≡ isCommand (now (p .entry)) ⌝ }
+{
+    if !is_marked(p) {
+        return false;
+    }
+    in_command(byte(p, 2), byte(p, 5), byte(p, 6), byte(p, 7))
 }
