@@ -39,3 +39,11 @@ Took n kind w r = ((r .kind ≡ kind) × (r .sent ≡ w .sent + n)) ⊎ (r .kind
 -- the last read brought is kept.
 abbrev pub Wrote : ℕ → Went → Went → Type 0
 Wrote n w r = (r .count ≡ w .count) × Took n (w .kind) w r
+
+-- What was to be read is not there, or cannot be used.
+abbrev pub unread : Went → Went
+unread w = record { kind = 2; count = 0; sent = w .sent }
+
+-- What was to be written or kept is not.
+abbrev pub unwritten : Went → Went
+unwritten w = record { kind = 3; count = w .count; sent = w .sent }
