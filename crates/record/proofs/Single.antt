@@ -14,6 +14,8 @@ use Rattle.record.proofs.number_bytes
 use Rattle.record.proofs.record_of
 use Rattle.record.proofs.bytes_of
 use Rattle.record.proofs.is_marked
+use Rattle.record.proofs.is_header
+use Rattle.record.proofs.is_command
 use Rattle.record.proofs.choose
 use Rattle.record.proofs.fault
 
@@ -35,6 +37,12 @@ module _ {M : Type 1} (𝓤 : URA M) (H : Heap 𝓤) (A : Atoms 𝓤) (mem : Mem
 
   pub is-marked-single : OneAnswer 𝓤 is_marked.ended (is_marked.clauses 𝓤 H A mem run)
   is-marked-single κs a g r s d e = one 𝓤 _ _ _
+
+  pub is-header-single : OneAnswer 𝓤 is_header.ended (is_header.clauses 𝓤 H A mem run)
+  is-header-single κs a g r s d e = one 𝓤 _ _ _
+
+  pub is-command-single : OneAnswer 𝓤 is_command.ended (is_command.clauses 𝓤 H A mem run)
+  is-command-single κs a g r s d e = one 𝓤 _ _ _
 
   pub choose-single : OneAnswer 𝓤 choose.ended (choose.clauses 𝓤 H A mem run)
   choose-single κs a g r s d e = one 𝓤 _ _ _

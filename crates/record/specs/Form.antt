@@ -71,12 +71,14 @@ headerFields r =
 abbrev pub isSeed : ℕ → Bool
 isSeed v = leb 1 v && leb v lastSeed
 
--- a command record's fields: op 1..11, code 0..13, running and released 0..31; operand bytes and value may hold
--- anything
+-- what makes a command record: op 1..11, code 0..13, running and released 0..31
+abbrev pub inCommand : ℕ → ℕ → ℕ → ℕ → Bool
+inCommand op code running released =
+    leb 1 op && leb op lastOp && leb code lastCode && leb running lastTask && leb released lastTask
+
+-- a command record's fields; operand bytes and value may hold anything
 abbrev pub commandFields : Record → Bool
-commandFields r =
-    leb 1 (r .op) && leb (r .op) lastOp && leb (r .code) lastCode && leb (r .running) lastTask && leb (r .released)
-    lastTask
+commandFields r = inCommand (r .op) (r .code) (r .running) (r .released)
 
 -- the header of a tape of an edition, made with a seed
 abbrev pub headerOf : ℕ → ℕ → Record

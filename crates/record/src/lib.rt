@@ -7,7 +7,7 @@ ghost use mathlib.Core.Bool.{cond};
 ghost use Prim.Native.Nat.{_<_};
 ghost use lib.ListN.{getD};
 ghost use Rattle.record.specs.Form.{le8, ofLe, bytesOf, recordOf, marked, headerFields, isSeed, commandFields};
-ghost use Rattle.record.specs.Form.{headerOf};
+ghost use Rattle.record.specs.Form.{headerOf, inCommand, isHeader, isCommand};
 ghost use Rattle.record.specs.Fault.{headerFault, commandFault, faultOf};
 
 // The length of a record.
@@ -167,14 +167,21 @@ fn header_fields(r: Record) -> bool
         & (r.released == 0)
 }
 
+// The fields that make a command record; the others may hold anything.
+fn in_command(op: u8, code: u8, running: u8, released: u8) -> bool
+    ensures { λ t. ⌜ t ≡ inCommand op code running released ⌝ }
+{
+    (1 <= op)
+        & (op <= LAST_OP)
+        & (code <= LAST_CODE)
+        & (running <= LAST_TASK)
+        & (released <= LAST_TASK)
+}
+
 fn command_fields(r: Record) -> bool
     ensures { λ t. ⌜ t ≡ commandFields r ⌝ }
 {
-    (1 <= r.op)
-        & (r.op <= LAST_OP)
-        & (r.code <= LAST_CODE)
-        & (r.running <= LAST_TASK)
-        & (r.released <= LAST_TASK)
+    in_command(r.op, r.code, r.running, r.released)
 }
 
 fn is_seed(v: u64) -> bool
@@ -202,6 +209,25 @@ fn command_fault(r: Record) -> u8
     ensures { λ c. ⌜ c ≡ commandFault r ⌝ }
 {
     choose(command_fields(r), 0, 15)
+}
+
+// 16 bytes are a header: its mark, its fields, and a seed.
+pub fn is_header(p: &[u8]) -> bool
+    ensures { λ t. ⌜ t ≡ isHeader (now (p .entry)) ⌝ }
+{
+    let r = record_of(p);
+    is_marked(p) & header_fields(r) & is_seed(r.value)
+}
+
+// 16 bytes are a command record, read byte by byte, the mark first. No `Record` is made and no value is read: so it is
+// small enough to stand inside a loop that asks it at each byte of a tape.
+pub fn is_command(p: &[u8]) -> bool
+    ensures { λ t. ⌜ t ≡ isCommand (now (p .entry)) ⌝ }
+{
+    if !is_marked(p) {
+        return false;
+    }
+    in_command(byte(p, 2), byte(p, 5), byte(p, 6), byte(p, 7))
 }
 
 // 0, 15 or 17 for fields at a place; reader and writer judge by it. It branches, where `choose` would judge each

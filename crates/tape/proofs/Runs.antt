@@ -60,7 +60,7 @@ unfolding nextAt
 next-is s at r n e = ap (placeOf at) e
 
 -- a run that stands behind p
-run-answers : (n : ℕ) (rs : List Record) (p : List ℕ) (at : ℕ) → length p ≡ at → at % 16 ≡ 0 → 0 < at + length rs → Takes n at rs
+pub run-answers : (n : ℕ) (rs : List Record) (p : List ℕ) (at : ℕ) → length p ≡ at → at % 16 ≡ 0 → 0 < at + length rs → Takes n at rs
     → answers (suc (length rs)) (p ++ tapeOf rs) at ≡ foundAll at rs
 run-answers n [] p at l w h t = ap (λ (x : Read). x ∷ []) (end-there (p ++ []) at w (sym (ap (λ (q : List ℕ). length q) (append-nil p) ∙ l)) (omega arith))
 run-answers n (r ∷ rs) p at l w h t =
@@ -101,7 +101,7 @@ others : {x y : Read} {l m : List Read} → x ∷ l ≡ y ∷ m → l ≡ m
 others e = cc
 
 module _ (s : List ℕ) (small : (i : ℕ) → getD s i 0 < 256) where
-  run-there : (rs : List Record) (at : ℕ) → answers (suc (length rs)) s at ≡ foundAll at rs → (drop at s ≡ tapeOf rs) × Takes (length s) at rs
+  pub run-there : (rs : List Record) (at : ℕ) → answers (suc (length rs)) s at ≡ foundAll at rs → (drop at s ≡ tapeOf rs) × Takes (length s) at rs
   run-there [] at e = (ap (λ (n : ℕ). drop n s) (end-place s at (first e) .0) ∙ drop-length s, tt)
   run-there (r ∷ rs) at e =
       let k = is-there s small at r (at + 16) (first e) in
