@@ -14,7 +14,7 @@ use Rattle.programs_flow.proofs.goes_on
 use Rattle.programs_flow.proofs.has_failed
 use Rattle.programs_flow.proofs.brought
 use Rattle.programs_flow.proofs.status
-use Rattle.programs_flow.proofs.bad_use
+use Rattle.programs_flow.proofs.told
 use Rattle.programs_flow.proofs.checked
 use Rattle.programs_flow.proofs.has_ended
 use Rattle.programs_flow.proofs.not_read
@@ -39,8 +39,8 @@ module _ {M : Type 1} (𝓤 : URA M) (H : Heap 𝓤) (A : Atoms 𝓤) (mem : Mem
   pub status-single : OneAnswer 𝓤 status.ended (status.clauses 𝓤 H A mem run)
   status-single κs a g r s d e = one 𝓤 _ _ _
 
-  pub bad-use-single : OneAnswer 𝓤 bad_use.ended (bad_use.clauses 𝓤 H A mem run)
-  bad-use-single κs a g r s d e = one 𝓤 _ _ _
+  pub told-single : OneAnswer 𝓤 told.ended (told.clauses 𝓤 H A mem run)
+  told-single κs a g r s d e = one 𝓤 _ _ _
 
   pub not-read-single : OneAnswer 𝓤 not_read.ended (not_read.clauses 𝓤 H A mem run)
   not-read-single κs a g r s d e = one 𝓤 _ _ _

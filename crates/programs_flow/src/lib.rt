@@ -2,7 +2,6 @@
 // input or writes an output.
 ghost use Prim.Native.Nat.{_≤_};
 ghost use mathlib.Core.Path.{_≡_};
-ghost use mathlib.Core.Bool.{cond};
 ghost use lib.Dec.{eqb, leb};
 ghost use lib.ListN.{length};
 ghost use Rattle.programs_flow.specs.Flow as flow;
@@ -84,12 +83,12 @@ fn complain(name: &[u8], what: &[u8]) {
     os::fail(what);
 }
 
-// A file that cannot be used at all: the status of bad use, before anything is read or written.
-pub fn bad_use(name: &[u8], what: &[u8]) -> u8
-    ensures { λ r. ⌜ r ≡ 2 ⌝ }
+// A status, and why.
+pub fn told(status: u8, name: &[u8], what: &[u8]) -> u8
+    ensures { λ r. ⌜ r ≡ status ⌝ }
 {
     complain(name, what);
-    2
+    status
 }
 
 // What was to be read is not there, or cannot be used.
@@ -118,7 +117,7 @@ pub fn not_written(w: Went, name: &[u8], what: &[u8]) -> Went
 
 // The work stands as it stood where something was done with a file; else it is not, as it is said.
 pub fn checked(w: Went, done: bool, name: &[u8], what: &[u8]) -> Went
-    ensures { λ r. ⌜ r ≡ cond done w (flow.unwritten w) ⌝ }
+    ensures { λ r. ⌜ r ≡ flow.where-done done w ⌝ }
 {
     if done {
         return w;
