@@ -1,0 +1,9 @@
+pub mod Marks
+pub mod Whole
+pub mod Apart
+pub mod Reader
+pub mod Ahead
+pub mod Damage
+pub mod Chained
+pub mod Theorems
+pub mod Worked

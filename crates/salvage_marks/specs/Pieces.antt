@@ -1,0 +1,127 @@
+-- The salvage of a tape that comes in pieces: what is decided of the bytes seen so far, and what waits for the next
+-- piece. Assumes nothing.
+use Prim.Native.Nat.{ℕ, zero, suc, _+_, _-_}
+use mathlib.Core.Path.{_≡_}
+use mathlib.Core.List.{List, [], _∷_, _++_}
+use mathlib.Core.Bool.{Bool, true, false, cond, _&&_, _||_}
+use lib.ListN.{length, take, drop}
+use lib.Seq.{sets}
+use lib.Dec.{leb, ltb, eqb}
+use Rattle.salvage_marks.specs.Torn.{makes, pick, closed, headed, cells}
+use Rattle.salvage_marks.specs.declared.Stretch.{Stretch}
+use Rattle.salvage_marks.specs.declared.Torn.{Torn}
+use Rattle.salvage_marks.specs.declared.Fed.{Fed}
+
+-- The marks as far as they are decided: where fewer than 16 bytes are left, the next piece is wanted.
+unfoldable pub ahead : Bool → ℕ → List ℕ → List Bool
+ahead first k [] = []
+ahead first (suc k) (b ∷ l) = true ∷ ahead false k l
+ahead first zero (b ∷ l) =
+    cond (leb 16 (length (b ∷ l)))
+    (cond (makes first (b ∷ l)) (true ∷ ahead false 15 l) (false ∷ ahead false zero l)) []
+
+-- the stretches that have ended, from the place `at` on, where every byte since `from` was dropped
+unfoldable pub ended : ℕ → ℕ → List Bool → List Stretch
+ended from at [] = []
+ended from at (true ∷ ms) = closed from at (ended (suc at) (suc at) ms)
+ended from at (false ∷ ms) = ended from (suc at) ms
+
+-- where the stretch begins that has not
+unfoldable pub begun : ℕ → ℕ → List Bool → ℕ
+begun from at [] = from
+begun from at (true ∷ ms) = begun (suc at) (suc at) ms
+begun from at (false ∷ ms) = begun from (suc at) ms
+
+-- before the first byte
+abbrev pub at-first : Torn
+at-first = record { place = 0; from = 0; headed = false }
+
+-- the last place that a number of 64 bits can say: no tape is longer
+abbrev pub lastPlace : ℕ
+lastPlace = 18446744073709551615
+
+-- the smaller of two numbers
+abbrev pub least : ℕ → ℕ → ℕ
+least x y = cond (ltb y x) y x
+
+-- where the open stretch begins; past the place (no salvage leaves that) it counts as the place
+abbrev pub opened : Torn → ℕ
+opened t = least (t .from) (t .place)
+
+-- the marks of the held bytes and of the piece behind them, together `buf`, as far as they are decided
+abbrev pub decided : Torn → List ℕ → List Bool
+decided t buf = ahead (eqb (t .place) 0) zero buf
+
+-- what is written and listed of them, and the salvage behind them; the rest of `buf` is held
+unfoldable pub written : Torn → List ℕ → List ℕ
+written t buf = pick (decided t buf) buf
+
+unfoldable pub listed : Torn → List ℕ → List Stretch
+listed t buf = ended (opened t) (t .place) (decided t buf)
+
+unfoldable pub after : Torn → List ℕ → Torn
+after t buf =
+    record {
+      place = t .place + length (decided t buf);
+      from = begun (opened t) (t .place) (decided t buf);
+      headed = t .headed || (eqb (t .place) 0 && headed buf);
+    }
+
+unfoldable pub held : Torn → List ℕ → List ℕ
+held t buf = drop (length (decided t buf)) buf
+
+-- it fits: no place passes the last one, and buffers of n bytes and m numbers hold what is written and listed
+unfoldable pub fedFits : Torn → List ℕ → ℕ → ℕ → Bool
+fedFits t buf n m =
+    leb (t .place + length buf) lastPlace && leb (length (written t buf)) n && leb (length (cells (listed t buf))) m
+
+-- A piece answers 0, what is behind it and its counts, or 16, Room, the salvage as it was, and zeros.
+unfoldable pub fedOf : Torn → List ℕ → ℕ → ℕ → Fed
+fedOf t buf n m =
+    cond (fedFits t buf n m)
+    (record {
+      code = 0;
+      torn = after t buf;
+      done = length (decided t buf);
+      kept = length (written t buf);
+      cells = length (cells (listed t buf));
+    })
+    (record { code = 16; torn = t; done = 0; kept = 0; cells = 0 })
+
+-- The contract of a piece: its answer; and where it fits, what is written stands at the front of one buffer and what
+-- is listed at the front of the other, else both are as they were.
+abbrev pub FedTo : Torn → List ℕ → List ℕ → List ℕ → Fed → List ℕ → List ℕ → Type 0
+FedTo t buf out list r out′ list′ =
+    (r ≡ fedOf t buf (length out) (length list))
+    × (out′ ≡ cond (fedFits t buf (length out) (length list)) (sets out 0 (written t buf)) out)
+    × (list′ ≡ cond (fedFits t buf (length out) (length list)) (sets list 0 (cells (listed t buf))) list)
+
+-- the last stretch of a tape that ends with so many bytes undecided: these are dropped; its size is 0 where there is
+-- none
+unfoldable pub lastOf : Torn → ℕ → Stretch
+lastOf t n = record { first = opened t; size = least (t .place + n) lastPlace - opened t }
+
+-- the buffer with its bytes from `done` up to `n` moved to its front, and how many they are; where there are no such
+-- bytes, as it was, and 0
+unfoldable pub movable : List ℕ → ℕ → ℕ → Bool
+movable s done n = leb done n && leb n (length s)
+
+abbrev pub MovedTo : List ℕ → ℕ → ℕ → ℕ → List ℕ → Type 0
+MovedTo s done n r s′ =
+    (r ≡ cond (movable s done n) (n - done) 0)
+    × (s′ ≡ cond (movable s done n) (sets s 0 (take (n - done) (drop done s))) s)
+
+-- A program that feeds a tape piece by piece, from a salvage t with some bytes held, to its end. All that it writes,
+-- all that it lists, and whether a header was kept. Each answer is one that the contract allows, with code 0.
+pub data Chain : Torn → List ℕ → List (List ℕ) → List ℕ → List ℕ → Bool → Type 0 where
+  end : {t : Torn} {h : List ℕ} (x : Stretch) → x ≡ lastOf t (length h)
+      → Chain t h [] [] (cells (closed (x .first) (x .first + x .size) [])) (t .headed)
+  feed : {t : Torn} {h p : List ℕ} {ps : List (List ℕ)} {w c : List ℕ} {b : Bool} (r : Fed)
+      (out list out′ list′ : List ℕ) → FedTo t (h ++ p) out list r out′ list′ → r .code ≡ 0
+      → Chain (r .torn) (drop (r .done) (h ++ p)) ps w c b
+      → Chain t h (p ∷ ps) (take (r .kept) out′ ++ w) (take (r .cells) list′ ++ c) b
+
+-- the tape that pieces are of
+abbrev pub joined : List (List ℕ) → List ℕ
+joined [] = []
+joined (p ∷ ps) = p ++ joined ps
