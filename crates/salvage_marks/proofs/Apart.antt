@@ -39,8 +39,7 @@ module _ (k base from at n : ℕ) (o : base + k ≤ from) (w : (from - base) % 1
   one-more : (xs : List Stretch) (l q : List ℕ) → from < at → at ≤ n → Apart 16 at n xs → cut at xs l ≡ q → Stands k base from at n l (closed from at xs) q
   one-more xs l q h v a c =
       let e : from + (at - from) ≡ at = omega arith in
-      rw (closed-one from at xs h)
-      (
+      rw (closed-one from at xs h) (
         (o, w, omega arith, omega arith, rw e a),
         λ r m. rw (e, drop-at r l (at - base) m, c) (ap (λ (x : List ℕ). x ++ q) (take-append-le (from - base) r l (omega arith))),
       )
@@ -64,12 +63,16 @@ module _ (k base from at n : ℕ) (o : base + k ≤ from) (w : (from - base) % 1
     where
       long : 16 ≤ length l
       long = makes-long f l t
+
       sixteen : length (take 16 l) ≡ 16
       sixteen = length-take-le 16 l long
+
       xs : List Stretch
       xs = dropped-on false (at + 16) (at + 16) (drop 16 l)
+
       q : List ℕ
       q = kept-on false (drop 16 l)
+
       go : (b : Bool) → ltb from at ≡ b → Stands k base from at n l (closed from at xs) (take 16 l ++ q)
       go true b =
           let h : from < at = ltb-true from at b in
@@ -84,20 +87,26 @@ module _ (k base from at n : ℕ) (o : base + k ≤ from) (w : (from - base) % 1
           let h : at ≤ from = ltb-false from at b in
           let v : 16 ≤ length l = long in
           let z = ih false k base (at + 16) (at + 16) n (drop 16 l) (omega (arith, length-drop 16 l)) (omega (arith, length-drop 16 l)) (omega arith) (omega arith) (omega arith) in
-          rw (closed-no from at xs h) (z .0, λ r m.
-            let y : length (r ++ take 16 l) ≡ at + 16 - base = length-append r (take 16 l) ∙ omega (arith, sixteen) in
-            ap (λ (x : List ℕ). cut base xs (r ++ x)) (sym (take-append-drop 16 l)) ∙ ap (cut base xs) (sym (append-assoc r (take 16 l) (drop 16 l)))
-            ∙ z .1 (r ++ take 16 l) y ∙ ap (λ (x : List ℕ). x ++ q) (take-all (at + 16 - base) (r ++ take 16 l) (omega arith))
-            ∙ append-assoc r (take 16 l) q ∙ ap (λ (x : List ℕ). x ++ (take 16 l ++ q)) (sym (take-all (from - base) r (omega arith))))
+          rw (closed-no from at xs h) (
+            z .0,
+            λ r m.
+                let y : length (r ++ take 16 l) ≡ at + 16 - base = length-append r (take 16 l) ∙ omega (arith, sixteen) in
+                ap (λ (x : List ℕ). cut base xs (r ++ x)) (sym (take-append-drop 16 l)) ∙ ap (cut base xs) (sym (append-assoc r (take 16 l) (drop 16 l)))
+                ∙ z .1 (r ++ take 16 l) y ∙ ap (λ (x : List ℕ). x ++ q) (take-all (at + 16 - base) (r ++ take 16 l) (omega arith))
+                ∙ append-assoc r (take 16 l) q ∙ ap (λ (x : List ℕ). x ++ (take 16 l ++ q)) (sym (take-all (from - base) r (omega arith))),
+          )
 
   dropped-here : (f : Bool) (b : ℕ) (l : List ℕ) → makes f (b ∷ l) ≡ false → at + suc (length l) ≡ n → Shown (suc (length l))
       → Stands k base from at n (b ∷ l) (dropped-on f from at (b ∷ l)) (kept-on f (b ∷ l))
   dropped-here f b l t e ih =
       let z = ih false k base from (at + 1) n l (omega arith) (omega arith) o w (omega arith) in
-      rw (dropped-drop f from at b l t, kept-drop f b l t) (z .0, λ r m.
-        let y : length (r ++ (b ∷ [])) ≡ at + 1 - base = length-append r (b ∷ []) ∙ omega arith in
-        ap (cut base (dropped-on false from (at + 1) l)) (sym (append-assoc r (b ∷ []) l)) ∙ z .1 (r ++ (b ∷ [])) y
-        ∙ ap (λ (x : List ℕ). x ++ kept-on false l) (take-append-le (from - base) r (b ∷ []) (omega arith)))
+      rw (dropped-drop f from at b l t, kept-drop f b l t) (
+        z .0,
+        λ r m.
+            let y : length (r ++ (b ∷ [])) ≡ at + 1 - base = length-append r (b ∷ []) ∙ omega arith in
+            ap (cut base (dropped-on false from (at + 1) l)) (sym (append-assoc r (b ∷ []) l)) ∙ z .1 (r ++ (b ∷ [])) y
+            ∙ ap (λ (x : List ℕ). x ++ kept-on false l) (take-append-le (from - base) r (b ∷ []) (omega arith)),
+      )
 
   step : (f : Bool) (l : List ℕ) → at + length l ≡ n → Shown (length l) → Stands k base from at n l (dropped-on f from at l) (kept-on f l)
   step f [] e ih = at-end f (omega arith)

@@ -85,6 +85,7 @@ piece-headed t buf r = go (leb 16 (length buf)) refl
   where
     d : ℕ
     d = length (decided t buf)
+
     late : (z h x y : Bool) → z ≡ false → (h || (x && y)) ≡ ((h || (x && y)) || (z && headed (drop d buf ++ r)))
     late z true true true e = refl
     late z true true false e = refl
@@ -92,10 +93,12 @@ piece-headed t buf r = go (leb 16 (length buf)) refl
     late z false true true e = refl
     late z false true false e = rw e
     late z false false y e = rw e
+
     early : (h x y : Bool) → (h || (x && y)) ≡ ((h || (x && false)) || (x && y))
     early true x y = refl
     early false true y = refl
     early false false y = refl
+
     go : (b : Bool) → leb 16 (length buf) ≡ b
         → (t .headed || (eqb (t .place) 0 && headed (buf ++ r)))
         ≡ ((t .headed || (eqb (t .place) 0 && headed buf)) || (eqb (t .place + d) 0 && headed (drop d buf ++ r)))
@@ -162,6 +165,48 @@ took t buf out list out′ list′ r f z = go (fedFits t buf (length out) (lengt
         }
     go false e (x, y, v) = absurd (omega (arith, ap (λ (q : Fed). q .code) x))
 
+-- ---- what is held
+
+held-is : (t : Torn) (buf : List ℕ) (n : ℕ) → n ≡ length (decided t buf) → drop n buf ≡ held t buf
+unfolding held
+held-is t buf n e = rw e
+
+held-short : (t : Torn) (buf : List ℕ) → length (held t buf) ≤ 15
+unfolding held
+held-short t buf = rest-short (eqb (t .place) 0) zero buf
+
+held-place : (t : Torn) (buf : List ℕ) → t .place + length buf ≤ lastPlace → after t buf .place + length (held t buf) ≤ lastPlace
+unfolding after held
+held-place t buf o = omega (arith, length-drop (length (decided t buf)) buf, ahead-few (eqb (t .place) 0) zero buf (omega arith))
+
+after-place : (s : List ℕ) → after at-first s .place + length (held at-first s) ≡ length s
+unfolding after held
+after-place s = omega (arith, length-drop (length (decided at-first s)) s, ahead-few true zero s (omega arith))
+
+after-from : (s : List ℕ) → opened (after at-first s) ≡ after at-first s .from
+unfolding after
+after-from s = after-opened at-first s []
+
+-- ---- a whole tape as one piece
+
+pub one-kept : (s : List ℕ) → kept s ≡ written at-first s
+unfolding kept
+one-kept s =
+    let l : List ℕ = held at-first s in
+    let k : kept-on (eqb (after at-first s .place) 0) (l ++ []) ≡ [] = rw (append-nil l, short-marks (eqb (after at-first s .place) 0) l (held-short at-first s)) (pick-none l) in
+    rw (append-nil s, k, append-nil (written at-first s)) at (piece-written at-first s [])
+
+pub one-dropped : (s : List ℕ) → dropped s ≡ listed at-first s ++ closed (after at-first s .from) (length s) []
+unfolding dropped
+one-dropped s =
+    let a : Torn = after at-first s in
+    let l : List ℕ = held at-first s in
+    let e : opened a ≡ a .from = after-from s in
+    let n : a .place + length l ≡ length s = after-place s in
+    let k : dropped-on (eqb (a .place) 0) (opened a) (a .place) (l ++ []) ≡ closed (a .from) (length s) [] =
+    rw (append-nil l, short-marks (eqb (a .place) 0) l (held-short at-first s), e) (one-stretch (length l) (a .from) (a .place) ∙ rw n) in
+    rw (append-nil s, k) at (piece-listed at-first s [])
+
 -- ---- a chain of answers
 
 abbrev Whole-of : Torn → List ℕ → List ℕ → List ℕ → Bool → Type 0
@@ -186,18 +231,6 @@ last-whole t h x e o p =
       rw (headed-short h (omega arith)) (or-none (t .headed) (eqb (t .place) 0)),
     )
 
-held-is : (t : Torn) (buf : List ℕ) (n : ℕ) → n ≡ length (decided t buf) → drop n buf ≡ held t buf
-unfolding held
-held-is t buf n e = rw e
-
-held-short : (t : Torn) (buf : List ℕ) → length (held t buf) ≤ 15
-unfolding held
-held-short t buf = rest-short (eqb (t .place) 0) zero buf
-
-held-place : (t : Torn) (buf : List ℕ) → t .place + length buf ≤ lastPlace → after t buf .place + length (held t buf) ≤ lastPlace
-unfolding after held
-held-place t buf o = omega (arith, length-drop (length (decided t buf)) buf, ahead-few (eqb (t .place) 0) zero buf (omega arith))
-
 pub chain-whole : {t : Torn} {h : List ℕ} {ps : List (List ℕ)} {w c : List ℕ} {b : Bool} → Chain t h ps w c b → length h ≤ 15 → t .place + length h ≤ lastPlace
     → Whole-of t (h ++ joined ps) w c b
 chain-whole {t} {h} (end x e) o p = last-whole t h x e o p
@@ -217,10 +250,13 @@ chain-whole {t} {h} (feed {p = q} {ps = ps} {w = w} {c = c} {b = b} r out list o
 
 -- ---- when a piece fits for sure
 
-pub enough : (t : Torn) (buf : List ℕ) (n m : ℕ) → t .place + length buf ≤ lastPlace → length buf ≤ n → length buf ≤ 8 * m → fedFits t buf n m ≡ true
+pub enough : (t : Torn) (buf : List ℕ) (n m : ℕ) → t .place + length buf ≤ lastPlace → length buf ≤ n → length buf < 8 * m + 8 → fedFits t buf n m ≡ true
 unfolding fedFits written listed
 enough t buf n m p a b =
     let w = pick-few (decided t buf) buf in
     let c = few-cells (eqb (t .place) 0) zero buf (omega arith) (opened t) (t .place) (λ z. absurd (omega arith)) in
-    rw (le-leb (t .place + length buf) lastPlace p, le-leb (length (pick (decided t buf) buf)) n (omega arith),
-        le-leb (length (cells (ended (opened t) (t .place) (decided t buf)))) m (omega arith))
+    rw (
+      le-leb (t .place + length buf) lastPlace p,
+      le-leb (length (pick (decided t buf) buf)) n (omega arith),
+      le-leb (length (cells (ended (opened t) (t .place) (decided t buf)))) m (omega arith),
+    )

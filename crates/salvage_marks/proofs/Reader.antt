@@ -154,7 +154,8 @@ header-fault p = go (marked p) (headerFields (recordOf p)) (isSeed (recordOf p .
     go true false v e = absurd (true≢false (sym e))
     go false h v e = absurd (true≢false (sym e))
 
-headed-made : (s : List ℕ) → headed s ≡ true → (makes true s ≡ true) × (isHeader (take 16 s) ≡ true)
+-- where a header stands, it makes a record
+pub headed-made : (s : List ℕ) → headed s ≡ true → (makes true s ≡ true) × (isHeader (take 16 s) ≡ true)
 unfolding headed makes
 headed-made s = go (leb 16 (length s)) (isCommand (take 16 s)) (isHeader (take 16 s))
   where
@@ -164,7 +165,8 @@ headed-made s = go (leb 16 (length s)) (isCommand (take 16 s)) (isHeader (take 1
     go true k false e = absurd (true≢false (sym e))
     go false k h e = absurd (true≢false (sym e))
 
-not-headed : (s : List ℕ) → headed s ≡ false → makes true s ≡ makes false s
+-- where none stands, byte 0 is a place like any other
+pub not-headed : (s : List ℕ) → headed s ≡ false → makes true s ≡ makes false s
 unfolding headed makes
 not-headed s = go (leb 16 (length s)) (isCommand (take 16 s)) (isHeader (take 16 s))
   where
@@ -238,6 +240,7 @@ later-headed (b ∷ l) = go (makes false (b ∷ l)) refl (later-headed l)
     or-none : (x : Bool) → (x || false) ≡ true → x ≡ true
     or-none true e = refl
     or-none false e = e
+
     go : (t : Bool) → makes false (b ∷ l) ≡ t → headed (kept-on false l) ≡ false → headed (kept-on false (b ∷ l)) ≡ false
     go true e ih =
         let p : List ℕ = take 16 (b ∷ l) in

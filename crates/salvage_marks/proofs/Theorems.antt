@@ -118,6 +118,6 @@ pub in-pieces : (ps : List (List ℕ)) {w c : List ℕ} {b : Bool} → Chain at-
 unfolding kept dropped
 in-pieces ps x = chained.chain-whole x (omega arith) (omega arith)
 
--- No piece is refused whose place can be said in 64 bits, over a buffer of as many bytes and one of a number for each 8 of them.
-pub piece-fits : (t : Torn) (buf : List ℕ) (n m : ℕ) → t .place + length buf ≤ lastPlace → length buf ≤ n → length buf ≤ 8 * m → fedFits t buf n m ≡ true
+-- No piece is refused whose place can be said in 64 bits, over a buffer of as many bytes and one of a number for each whole 8 of them.
+pub piece-fits : (t : Torn) (buf : List ℕ) (n m : ℕ) → t .place + length buf ≤ lastPlace → length buf ≤ n → length buf < 8 * m + 8 → fedFits t buf n m ≡ true
 piece-fits t buf n m p a b = chained.enough t buf n m p a b
