@@ -4,7 +4,7 @@
 -- How the work stands, by its number (kind): it goes on (0), a read gave nothing (1), a read failed (2), a write
 -- failed (3).
 use Prim.Native.Nat.{ℕ, _+_, _≤_}
-use mathlib.Core.Bool.{cond}
+use mathlib.Core.Bool.{Bool, cond}
 use mathlib.Core.Path.{_≡_}
 use mathlib.Core.List.{List}
 use mathlib.Core.Logic.{_⊎_}
@@ -39,3 +39,15 @@ Took n kind w r = ((r .kind ≡ kind) × (r .sent ≡ w .sent + n)) ⊎ (r .kind
 -- the last read brought is kept.
 abbrev pub Wrote : ℕ → Went → Went → Type 0
 Wrote n w r = (r .count ≡ w .count) × Took n (w .kind) w r
+
+-- What was to be read is not there, or cannot be used.
+abbrev pub unread : Went → Went
+unread w = record { kind = 2; count = 0; sent = w .sent }
+
+-- What was to be written or kept is not.
+abbrev pub unwritten : Went → Went
+unwritten w = record { kind = 3; count = w .count; sent = w .sent }
+
+-- The work stands as it stood where something was done; else it has failed.
+unfoldable pub where-done : Bool → Went → Went
+where-done done w = cond done w (unwritten w)

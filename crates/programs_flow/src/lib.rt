@@ -39,6 +39,13 @@ pub fn has_failed(w: Went) -> bool
     2 <= w.kind
 }
 
+// A read gave nothing, and nothing failed: all was read.
+pub fn has_ended(w: Went) -> bool
+    ensures { λ r. ⌜ r ≡ eqb (w .kind) 1 ⌝ }
+{
+    w.kind == 1
+}
+
 // How many bytes the last read brought.
 pub fn brought(w: Went) -> usize
     ensures { λ r. ⌜ r ≡ w .count ⌝ }
@@ -69,6 +76,55 @@ fn moved_none(kind: u8) -> Call
     Call { count: 0, kind }
 }
 
+// One line on standard error: which file, what could not be done with it, and the system's reason. (A write that does
+// not fail leaves that reason as it is.)
+fn complain(name: &[u8], what: &[u8]) {
+    io::write_all(libc::STDERR_FILENO, name);
+    os::fail(what);
+}
+
+// A status, and why.
+pub fn told(status: u8, name: &[u8], what: &[u8]) -> u8
+    ensures { λ r. ⌜ r ≡ status ⌝ }
+{
+    complain(name, what);
+    status
+}
+
+// What was to be read is not there, or cannot be used.
+pub fn not_read(w: Went, name: &[u8], what: &[u8]) -> Went
+    ensures { λ r. ⌜ r ≡ flow.unread w ⌝ }
+{
+    complain(name, what);
+    Went {
+        kind: 2,
+        count: 0,
+        sent: w.sent,
+    }
+}
+
+// What was to be written or kept is not.
+pub fn not_written(w: Went, name: &[u8], what: &[u8]) -> Went
+    ensures { λ r. ⌜ r ≡ flow.unwritten w ⌝ }
+{
+    complain(name, what);
+    Went {
+        kind: 3,
+        count: w.count,
+        sent: w.sent,
+    }
+}
+
+// The work stands as it stood where something was done with a file; else it is not, as it is said.
+pub fn checked(w: Went, done: bool, name: &[u8], what: &[u8]) -> Went
+    ensures { λ r. ⌜ r ≡ flow.where-done done w ⌝ }
+{
+    if done {
+        return w;
+    }
+    not_written(w, name, what)
+}
+
 fn read_once(fd: i32, piece: &mut [u8]) -> Call
     ensures { λ r. ⌜ flow.Brought (now (piece .exit)) (r .count) (r .kind) ⌝ }
 {
@@ -83,13 +139,12 @@ fn read_once(fd: i32, piece: &mut [u8]) -> Call
     if os::errno() == libc::EINTR {
         return moved_none(4);
     }
-    os::fail(b"the input could not be read");
     moved_none(2)
 }
 
-// One read into piece. A call that a signal ended is made again. Nothing says that signals end, so the loop counts
-// down from a number that no run uses up.
-pub fn read_piece(w: Went, fd: i32, piece: &mut [u8]) -> Went
+// One read into piece, of a file that has this name where it is complained of. A call that a signal ended is made
+// again. Nothing says that signals end, so the loop counts down from a number that no run uses up.
+pub fn read_from(w: Went, fd: i32, name: &[u8], piece: &mut [u8]) -> Went
     ensures { λ r. ⌜ flow.Came w r (now (piece .exit)) ⌝ }
 {
     let mut turns = u64::MAX;
@@ -102,13 +157,8 @@ pub fn read_piece(w: Went, fd: i32, piece: &mut [u8]) -> Went
         kind = again.kind;
         turns -= 1;
     }
-    if 2 < kind {
-        os::fail(b"the input could not be read");
-        return Went {
-            kind: 2,
-            count: 0,
-            sent: w.sent,
-        };
+    if 2 <= kind {
+        return not_read(w, name, b" could not be read");
     }
     Went {
         kind,
@@ -117,11 +167,18 @@ pub fn read_piece(w: Went, fd: i32, piece: &mut [u8]) -> Went
     }
 }
 
+// One read of the input.
+pub fn read_piece(w: Went, fd: i32, piece: &mut [u8]) -> Went
+    ensures { λ r. ⌜ flow.Came w r (now (piece .exit)) ⌝ }
+{
+    read_from(w, fd, b"the input", piece)
+}
+
 // A write that takes nothing has failed, too.
-fn write_once(out: &[u8]) -> Call
+fn write_once(fd: i32, out: &[u8]) -> Call
     ensures { λ r. ⌜ r .count ≤ length (now (out .entry)) ⌝ }
 {
-    let put = libc::write(libc::STDOUT_FILENO, out);
+    let put = libc::write(fd, out);
     let count = io::count(put, out);
     if count > 0 {
         return Call { count, kind: 0 };
@@ -129,40 +186,29 @@ fn write_once(out: &[u8]) -> Call
     if (put < 0) & (os::errno() == libc::EINTR) {
         return moved_none(4);
     }
-    os::fail(b"the output could not be written");
     moved_none(3)
 }
 
-fn not_written(w: Went) -> Went
-    ensures { λ r. ⌜ (r .count ≡ w .count) × (r .kind ≡ 3) ⌝ }
-{
-    Went {
-        kind: 3,
-        count: w.count,
-        sent: w.sent,
-    }
-}
-
-// All of out, in as many writes as it takes: it is all taken, or the write has failed. What the last read brought is
-// kept. Where no number holds the total that is a failure, too; no run gets there.
-pub fn write_whole(w: Went, out: &[u8]) -> Went
+// All of out, in as many writes as it takes, to a file that has this name where it is complained of: it is all taken, or
+// the write has failed. What the last read brought is kept. Where no number holds the total that is a failure, too; no
+// run gets there.
+pub fn write_to(w: Went, fd: i32, name: &[u8], out: &[u8]) -> Went
     ensures { λ r. ⌜ flow.Wrote (length (now (out .entry))) w r ⌝ }
 {
     let mut turns = u64::MAX;
     let mut at = 0;
-    while turns > 0 && at < out.len() {
-        let put = write_once(&out[at..]);
-        if put.kind == 3 {
-            return not_written(w);
-        }
+    let mut kind = 0;
+    while turns > 0 && at < out.len() && kind != 3 {
+        let put = write_once(fd, &out[at..]);
+        kind = put.kind;
         at += put.count;
         turns -= 1;
     }
     if at < out.len() {
-        return not_written(w);
+        return not_written(w, name, b" could not be written");
     }
     if usize::MAX - w.sent < at {
-        return not_written(w);
+        return not_written(w, name, b" could not be counted");
     }
     let sent = w.sent + at;
     Went {
@@ -170,4 +216,11 @@ pub fn write_whole(w: Went, out: &[u8]) -> Went
         count: w.count,
         sent,
     }
+}
+
+// All of out, to standard output.
+pub fn write_whole(w: Went, out: &[u8]) -> Went
+    ensures { λ r. ⌜ flow.Wrote (length (now (out .entry))) w r ⌝ }
+{
+    write_to(w, libc::STDOUT_FILENO, b"the output", out)
 }

@@ -40,12 +40,6 @@ same-length-3 c = search needs
 returns-3 : tie.Need-returns-3
 returns-3 c = brought-none _ _ _ 4 (c .moved-none2 .ensures) (omega arith)
 
-slice-aggregate-fail : tie.Need-slice-aggregate-fail
-slice-aggregate-fail c = search needs
-
-fail-requires : tie.Need-fail-requires
-fail-requires c κs = search needs
-
 moved-none-requires-3 : tie.Need-moved-none-requires-3
 moved-none-requires-3 c κs = search needs
 
@@ -70,8 +64,6 @@ read-once-spec =
     moved-none-requires-2
     same-length-3
     returns-3
-    slice-aggregate-fail
-    fail-requires
     moved-none-requires-3
     same-length-4
     returns-4)
