@@ -145,7 +145,8 @@ module _ (a : List ℕ) (gs : List Gap) (end : List ℕ) (o : 0 < length a) (w :
   pub none-lost : kept (a ++ torn-at gs end) ≡ a ++ saved gs
   unfolding kept
   none-lost =
-      ap (λ (m : List Bool). pick m (a ++ torn-at gs end)) (marks-whole true a (torn-at gs end) o w) ∙ pick-front (marks false zero (torn-at gs end)) a (torn-at gs end)
+      ap (λ (m : List Bool). pick m (a ++ torn-at gs end)) (marks-whole true a (torn-at gs end) o w)
+      ∙ pick-front (marks false zero (torn-at gs end)) a (torn-at gs end)
       ∙ ap (λ (l : List ℕ). a ++ l) (gaps-kept gs end n)
 
   pub all-listed : dropped (a ++ torn-at gs end) ≡ gaps (length a) gs end

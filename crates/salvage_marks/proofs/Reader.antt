@@ -32,7 +32,8 @@ faultless : (at : ℕ) (p : List ℕ) → marked p ≡ true → faultOf at (reco
 unfolding faultOf
 faultless at p = go (eqb at 0) (marked p) (commandFields (recordOf p)) (headerFields (recordOf p)) (isSeed (recordOf p .value))
   where
-    go : (z m k h v : Bool) → m ≡ true → cond {A = ℕ} z (cond {A = ℕ} h (cond {A = ℕ} v 0 17) 15) (cond {A = ℕ} k 0 15) ≡ 0 → ((m && k) || (z && (m && h && v))) ≡ true
+    go : (z m k h v : Bool) → m ≡ true → cond {A = ℕ} z (cond {A = ℕ} h (cond {A = ℕ} v 0 17) 15) (cond {A = ℕ} k 0 15) ≡ 0
+        → ((m && k) || (z && (m && h && v))) ≡ true
     go z false k h v e f = absurd (true≢false (sym e))
     go z true true h v e f = refl
     go true true false true true e f = refl
