@@ -11,19 +11,8 @@ use lib.ListN.{length, take, drop, length-drop, length-append, take-append-drop}
 use lib.Seq.{length-take-le, drop-at, take-all, take-take, take-append-le}
 use Rattle.salvage_marks.specs.declared.Stretch.{Stretch}
 use Rattle.salvage_marks.specs.Torn.{makes, marks, pick, closed, stretches, kept-on, dropped-on, kept, dropped}
+use Rattle.salvage_marks.specs.Words.{Apart, cut}
 use Rattle.salvage_marks.proofs.Marks.{makes-long, kept-keep, kept-drop, dropped-keep, dropped-drop, closed-one, closed-no}
-
--- Stretches of a tape of n bytes, behind a place: the next begins whole records behind it, k bytes behind it at least, is not empty, and ends within the tape;
--- and so on from its end, 16 bytes behind it at least. Behind the last one stand whole records up to the tape's end.
-abbrev pub Apart : ℕ → ℕ → ℕ → List Stretch → Type 0
-Apart k place n [] = (place ≤ n) × ((n - place) % 16 ≡ 0)
-Apart k place n (x ∷ xs) =
-    (place + k ≤ x .first) × ((x .first - place) % 16 ≡ 0) × (0 < x .size) × (x .first + x .size ≤ n) × Apart 16 (x .first + x .size) n xs
-
--- The bytes of a tape from a place on that no stretch has.
-abbrev pub cut : ℕ → List Stretch → List ℕ → List ℕ
-cut place [] l = l
-cut place (x ∷ xs) l = take (x .first - place) l ++ cut (x .first + x .size) xs (drop (x .first + x .size - place) l)
 
 -- What is shown of what is left of a tape, l, at the place `at`. Behind the place `base` whole records were kept up to `from`, and all bytes from there on dropped.
 abbrev Stands : ℕ → ℕ → ℕ → ℕ → ℕ → List ℕ → List Stretch → List ℕ → Type 0

@@ -12,40 +12,10 @@ use lib.Seq.{drop-length}
 use Rattle.salvage_marks.specs.declared.Stretch.{Stretch}
 use Rattle.salvage_marks.specs.Torn.{makes, marks, pick, closed, stretches, kept, dropped}
 use Rattle.salvage_marks.specs.Pieces.{ahead}
+use Rattle.salvage_marks.specs.Words.{Whole}
+use Rattle.salvage_marks.specs.Damage.{Clear, Gap, torn-at, saved, gaps, Loses-none}
 use Rattle.salvage_marks.proofs.Marks.{and-false, makes-long, makes-short, closed-none, stretches-trues}
-use Rattle.salvage_marks.proofs.Whole.{Whole}
 use Rattle.salvage_marks.proofs.Ahead.{marks-ahead}
-
--- no record begins in x, with r behind it
-abbrev pub Clear : List ℕ → List ℕ → Type 0
-Clear [] r = Unit {0}
-Clear (b ∷ x) r = (makes false (b ∷ (x ++ r)) ≡ false) × Clear x r
-
--- a place of damage: the bytes put there (none, where records were only cut out), and the records behind them, up to the next place
-pub record Gap : Type 0 where
-  pub junk : List ℕ
-  pub records : List ℕ
-
--- what stands on the torn tape behind its first records: gap by gap, and bytes at its end (a record that was cut short, or none)
-abbrev pub torn-at : List Gap → List ℕ → List ℕ
-torn-at [] end = end
-torn-at (g ∷ gs) end = g .junk ++ (g .records ++ torn-at gs end)
-
--- its records
-abbrev pub saved : List Gap → List ℕ
-saved [] = []
-saved (g ∷ gs) = g .records ++ saved gs
-
--- the bytes that were put there, as stretches
-abbrev pub gaps : ℕ → List Gap → List ℕ → List Stretch
-gaps at [] end = closed at (at + length end) []
-gaps at (g ∷ gs) end = closed at (at + length (g .junk)) (gaps (at + length (g .junk) + length (g .records)) gs end)
-
--- behind each gap stand whole records, one at least, and no record begins in what was put in
-abbrev pub Loses-none : List Gap → List ℕ → Type 0
-Loses-none [] end = Clear end []
-Loses-none (g ∷ gs) end =
-    (0 < length (g .records)) × Whole false (g .records) × Clear (g .junk) (g .records ++ torn-at gs end) × Loses-none gs end
 
 -- ---- marks
 

@@ -18,12 +18,9 @@ use Rattle.tape.specs.Run.{tapeOf, Takes, answers, foundAll}
 use Rattle.tape.proofs.Writing.{accepted, accepts}
 use Rattle.tape.proofs.Runs.{run-there, run-answers}
 use Rattle.salvage_marks.specs.Torn.{is-record, makes, marks, pick, kept-on, kept, dropped, found-on, found, headed}
+use Rattle.salvage_marks.specs.Words.{Bytes, Whole}
 use Rattle.salvage_marks.proofs.Marks.{both-true, and-false, makes-long, makes-record, kept-keep, kept-drop}
-use Rattle.salvage_marks.proofs.Whole.{Whole, whole-joined, whole-same}
-
--- every element is a byte
-abbrev pub Bytes : List ℕ → Type 0
-Bytes l = (i : ℕ) → getD l i 0 < 256
+use Rattle.salvage_marks.proofs.Whole.{whole-joined, whole-same}
 
 -- ---- a tape that the reader reads
 

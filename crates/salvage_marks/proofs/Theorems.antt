@@ -15,14 +15,14 @@ use Rattle.salvage_marks.specs.declared.Salvaged.{Salvaged}
 use Rattle.salvage_marks.specs.declared.Torn.{Torn}
 use Rattle.salvage_marks.specs.Torn.{kept, dropped, found, headed, cells, total, fits, salvagedOf}
 use Rattle.salvage_marks.specs.Pieces.{at-first, lastPlace, fedFits, Chain, joined}
+use Rattle.salvage_marks.specs.Words.{Bytes, Whole, Apart, cut, Answered}
+use Rattle.salvage_marks.specs.Words.Answered.{whole, no-bytes, no-numbers}
+use Rattle.salvage_marks.specs.Damage.{Gap, torn-at, saved, gaps, Loses-none}
 use Rattle.salvage_marks.proofs.Marks.{cells-long}
-use Rattle.salvage_marks.proofs.Whole.{Whole, each-byte, kept-long, new-whole, whole-same}
+use Rattle.salvage_marks.proofs.Whole.{each-byte, kept-long, new-whole, whole-same}
 use Rattle.salvage_marks.proofs.Apart as places
-use Rattle.salvage_marks.proofs.Apart.{Apart, cut}
 use Rattle.salvage_marks.proofs.Reader as reader
-use Rattle.salvage_marks.proofs.Reader.{Bytes}
 use Rattle.salvage_marks.proofs.Damage as damage
-use Rattle.salvage_marks.proofs.Damage.{Gap, torn-at, saved, gaps, Loses-none}
 use Rattle.salvage_marks.proofs.Chained as chained
 
 -- ---- Old tape, new tape, list
@@ -85,14 +85,6 @@ pub cut-short : (x : List ℕ) → length x ≤ 15 → Loses-none [] x
 cut-short x o = damage.short-clear x o
 
 -- ---- Room
-
--- A salvage's answer over buffers of n bytes and m numbers: 0 and its counts where the records, 16 bytes each, and the list, two numbers a stretch, fit; and
--- 16 where the one or the other does not.
-pub data Answered (s : List ℕ) (n m : ℕ) : Salvaged → Type 0 where
-  whole : 16 * length (found s) ≤ n → 2 * length (dropped s) ≤ m
-      → Answered s n m (record { code = 0; records = length (found s); stretches = length (dropped s); headed = headed s })
-  no-bytes : n < 16 * length (found s) → Answered s n m (record { code = 16; records = 0; stretches = 0; headed = false })
-  no-numbers : m < 2 * length (dropped s) → Answered s n m (record { code = 16; records = 0; stretches = 0; headed = false })
 
 -- Rules out: a salvage refused that would fit, and one that is not refused and does not.
 pub room-exactly : (s : List ℕ) (n m : ℕ) → Answered s n m (salvagedOf s n m)
