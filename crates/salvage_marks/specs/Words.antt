@@ -60,6 +60,11 @@ Has s at i = (kept-at s at ≡ true) × (at ≤ i) × (i < at + 16)
 abbrev pub byte-kept : List ℕ → ℕ → Bool
 byte-kept s i = getD (marks true zero s) i false
 
+-- A buffer, old and new: w stands at its front, n numbers, and all behind them is as it was.
+pub record Front (n : ℕ) (w old new : List ℕ) : Type 0 where
+  pub front : take n new ≡ w
+  pub rest : drop n new ≡ drop n old
+
 -- What a salvage answers over buffers of n bytes and m numbers. Code 0 and its counts: the records, 16 bytes each, and
 -- the list, two numbers for each stretch, fit. Code 16 and zeros: the records do not fit, or the list does not.
 pub data Answered (s : List ℕ) (n m : ℕ) : Salvaged → Type 0 where
