@@ -4,7 +4,6 @@ use Prim.Native.Nat.{ℕ}
 use mathlib.Core.Path.{_≡_, refl}
 use mathlib.Core.Bool.{Bool, true, false}
 use mathlib.Core.List.{List, [], _∷_, _++_}
-use lib.ListN.{drop}
 use Rattle.record.specs.Form.{recordOf}
 use Rattle.salvage_marks.specs.declared.Salvaged.{Salvaged}
 use Rattle.salvage_marks.specs.declared.Torn.{Torn}
@@ -44,12 +43,9 @@ seven = 82 ∷ 86 ∷ 1 ∷ 2 ∷ 3 ∷ 0 ∷ 0 ∷ []
 abbrev fifteen : List ℕ
 fifteen = 82 ∷ 86 ∷ 1 ∷ 4 ∷ 5 ∷ 0 ∷ 7 ∷ 8 ∷ 6 ∷ 0 ∷ 0 ∷ 0 ∷ 0 ∷ 0 ∷ 0 ∷ []
 
--- Two command records that overlap: the value of the first, its bytes 8 to 15, is the first half of the second.
-abbrev overlapping-first : List ℕ
-overlapping-first = 82 ∷ 86 ∷ 2 ∷ 7 ∷ 6 ∷ 0 ∷ 5 ∷ 4 ∷ 82 ∷ 86 ∷ 1 ∷ 3 ∷ 9 ∷ 10 ∷ 11 ∷ 12 ∷ []
-
-abbrev second-half : List ℕ
-second-half = 21 ∷ 22 ∷ 23 ∷ 24 ∷ 25 ∷ 26 ∷ 27 ∷ 28 ∷ []
+-- eight bytes with which a command record begins
+abbrev eight : List ℕ
+eight = 82 ∷ 86 ∷ 3 ∷ 21 ∷ 22 ∷ 12 ∷ 24 ∷ 25 ∷ []
 
 -- ---- whole tapes
 
@@ -68,9 +64,9 @@ unfolding kept dropped headed marks makes pick stretches closed cells recordOf
 torn = (refl, refl, refl)
 
 -- a command record at byte 0
-no-header : Row (create ++ closep) (create ++ closep) [] false
+headless : Row (create ++ closep) (create ++ closep) [] false
 unfolding kept dropped headed marks makes pick stretches closed cells recordOf
-no-header = (refl, refl, refl)
+headless = (refl, refl, refl)
 
 -- headers at byte 0 that are kept: edition 1, edition 2, and the last seed
 edition-one : Row (header-of 1 (small 88) ++ create) (header-of 1 (small 88) ++ create) [] true
@@ -93,31 +89,31 @@ edition-three : Row (header-of 3 (small 66) ++ create) create (0 ∷ 16 ∷ []) 
 unfolding kept dropped headed marks makes pick stretches closed cells recordOf
 edition-three = (refl, refl, refl)
 
-seed-none : Row (header-of 1 (small 0) ++ create) create (0 ∷ 16 ∷ []) false
+no-seed : Row (header-of 1 (small 0) ++ create) create (0 ∷ 16 ∷ []) false
 unfolding kept dropped headed marks makes pick stretches closed cells recordOf
-seed-none = (refl, refl, refl)
+no-seed = (refl, refl, refl)
 
 seed-past : Row (header-of 2 (0 ∷ 0 ∷ 0 ∷ 0 ∷ 1 ∷ 0 ∷ 0 ∷ 0 ∷ []) ++ closep) closep (0 ∷ 16 ∷ []) false
 unfolding kept dropped headed marks makes pick stretches closed cells recordOf
 seed-past = (refl, refl, refl)
 
--- a header that is right, but not at byte 0: behind a record, and behind junk, where nothing was kept before it
-later-header : Row (create ++ header ++ closep) (create ++ closep) (16 ∷ 16 ∷ []) false
+-- Headers that are right, but not at byte 0: behind a header, behind a command record, and behind junk, where nothing was kept before them.
+header-at-16 : Row (header ++ header-of 1 (small 88) ++ create) (header ++ create) (16 ∷ 16 ∷ []) true
 unfolding kept dropped headed marks makes pick stretches closed cells recordOf
-later-header = (refl, refl, refl)
+header-at-16 = (refl, refl, refl)
 
-behind-junk : Row (junk ++ header ++ create) create (0 ∷ 19 ∷ []) false
+header-behind-command : Row (create ++ header ++ closep) (create ++ closep) (16 ∷ 16 ∷ []) false
 unfolding kept dropped headed marks makes pick stretches closed cells recordOf
-behind-junk = (refl, refl, refl)
+header-behind-command = (refl, refl, refl)
 
--- Of two records that overlap the first is kept; the second would make one, 8 bytes further on.
-overlap : Row (overlapping-first ++ second-half) overlapping-first (16 ∷ 8 ∷ []) false
+header-at-3 : Row (junk ++ header ++ create) create (0 ∷ 19 ∷ []) false
 unfolding kept dropped headed marks makes pick stretches closed cells recordOf
-overlap = (refl, refl, refl)
+header-at-3 = (refl, refl, refl)
 
-second-makes : makes false (drop 8 (overlapping-first ++ second-half)) ≡ true
-unfolding makes recordOf
-second-makes = refl
+-- Of two records that overlap the first is kept, at 16: eight bytes of its own, and for a value the first half of the second. The second, at 24, is lost.
+swallowed : Row (header ++ eight ++ create) (header ++ eight ++ (82 ∷ 86 ∷ 1 ∷ 4 ∷ 5 ∷ 0 ∷ 7 ∷ 8 ∷ [])) (32 ∷ 8 ∷ []) true
+unfolding kept dropped headed marks makes pick stretches closed cells recordOf
+swallowed = (refl, refl, refl)
 
 -- a last record that wants one byte
 one-short : Row (header ++ fifteen) header (16 ∷ 15 ∷ []) true
@@ -131,56 +127,45 @@ three-kept = header ++ junk ++ create ++ closep
 abbrev refused : Salvaged
 refused = record { code = 16; records = 0; stretches = 0; headed = false }
 
-exact-room : salvagedOf three-kept 48 2 ≡ record { code = 0; records = 3; stretches = 1; headed = true }
+room : (salvagedOf three-kept 48 2 ≡ record { code = 0; records = 3; stretches = 1; headed = true }) × (salvagedOf three-kept 47 2 ≡ refused)
+    × (salvagedOf three-kept 48 1 ≡ refused)
 unfolding salvagedOf fits kept dropped found found-on headed marks makes pick stretches closed cells recordOf
-exact-room = refl
-
-byte-less : salvagedOf three-kept 47 2 ≡ refused
-unfolding salvagedOf fits kept dropped found found-on headed marks makes pick stretches closed cells recordOf
-byte-less = refl
-
-number-less : salvagedOf three-kept 48 1 ≡ refused
-unfolding salvagedOf fits kept dropped found found-on headed marks makes pick stretches closed cells recordOf
-number-less = refl
+room = (refl, refl, refl)
 
 -- ---- pieces
 
 -- The first piece of a tape, 42 bytes: 35 are decided, 32 of them kept, and a stretch of 3 is listed; 7 wait. It fits exactly; then there is a byte less, and
 -- a number less.
-abbrev piece : List ℕ
-piece = header ++ junk ++ create ++ seven
+abbrev first-42 : List ℕ
+first-42 = header ++ junk ++ create ++ seven
 
 abbrev not-fed : Torn → Fed
 not-fed t = record { code = 16; torn = t; done = 0; kept = 0; cells = 0 }
 
-first-piece : fedOf at-first piece 32 2 ≡ record { code = 0; torn = record { place = 35; from = 35; headed = true }; done = 35; kept = 32; cells = 2 }
+first-piece : fedOf at-first first-42 32 2 ≡ record { code = 0; torn = record { place = 35; from = 35; headed = true }; done = 35; kept = 32; cells = 2 }
 unfolding fedOf fedFits written listed after ahead ended begun headed makes pick closed cells recordOf
 first-piece = refl
 
-first-kept : (written at-first piece ≡ header ++ create) × (cells (listed at-first piece) ≡ 16 ∷ 3 ∷ [])
+first-kept : (written at-first first-42 ≡ header ++ create) × (cells (listed at-first first-42) ≡ 16 ∷ 3 ∷ [])
 unfolding written listed ahead ended makes pick closed cells recordOf
 first-kept = (refl, refl)
 
-piece-byte-less : fedOf at-first piece 31 2 ≡ not-fed at-first
+no-piece-room : (fedOf at-first first-42 31 2 ≡ not-fed at-first) × (fedOf at-first first-42 32 1 ≡ not-fed at-first)
 unfolding fedOf fedFits written listed ahead ended makes pick closed cells recordOf
-piece-byte-less = refl
-
-piece-number-less : fedOf at-first piece 32 1 ≡ not-fed at-first
-unfolding fedOf fedFits written listed ahead ended makes pick closed cells recordOf
-piece-number-less = refl
+no-piece-room = (refl, refl)
 
 -- A later piece, at byte 50, with a stretch open since byte 45: a header is dropped there, and the stretch ends at the command record behind it.
 abbrev on-way : Torn
 on-way = record { place = 50; from = 45; headed = true }
 
-later-piece : fedOf on-way (header ++ create ++ junk) 16 2
+piece : fedOf on-way (header ++ create ++ junk) 16 2
     ≡ record { code = 0; torn = record { place = 82; from = 82; headed = true }; done = 32; kept = 16; cells = 2 }
 unfolding fedOf fedFits written listed after ahead ended begun headed makes pick closed cells recordOf
-later-piece = refl
+piece = refl
 
-later-kept : (written on-way (header ++ create ++ junk) ≡ create) × (cells (listed on-way (header ++ create ++ junk)) ≡ 45 ∷ 21 ∷ [])
+piece-kept : (written on-way (header ++ create ++ junk) ≡ create) × (cells (listed on-way (header ++ create ++ junk)) ≡ 45 ∷ 21 ∷ [])
 unfolding written listed ahead ended makes pick closed cells recordOf
-later-kept = (refl, refl)
+piece-kept = (refl, refl)
 
 -- a stretch that is said to begin past the place begins at it
 made-up : cells (listed (record { place = 50; from = 60; headed = false }) (header ++ create)) ≡ 50 ∷ 16 ∷ []
@@ -199,9 +184,9 @@ unfolding fedOf fedFits written listed ahead ended makes pick closed cells recor
 past-last = refl
 
 -- The last stretch: with 7 bytes undecided, with none and nothing open, and where the sum would pass the last place.
-last-open : lastOf on-way 7 ≡ record { first = 45; size = 12 }
+last : lastOf on-way 7 ≡ record { first = 45; size = 12 }
 unfolding lastOf
-last-open = refl
+last = refl
 
 last-none : lastOf (record { place = 35; from = 35; headed = true }) 0 ≡ record { first = 35; size = 0 }
 unfolding lastOf

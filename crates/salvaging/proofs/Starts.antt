@@ -113,13 +113,15 @@ module _ (place begin size : ℕ) (buf : List ℕ) (s : Starts place begin size 
       let n : length (pick (marked-at place buf) buf) ≡ size + length (pick (to-go buf size) (drop size buf)) =
       ap (λ (x : List ℕ). length x) (s .bytes) ∙ length-append (take size buf) _
       ∙ ap (λ (k : ℕ). k + length (pick (to-go buf size) (drop size buf))) (length-take-le size buf (s .within)) in
-      let z : 0 + length (cells (ended (begin + size) (place + size) (to-go buf size))) ≡ length (cells (ended (begin + size) (place + size) (to-go buf size))) = omega arith in
+      let k : ℕ = length (cells (ended (begin + size) (place + size) (to-go buf size))) in
+      let z : 0 + k ≡ k = omega arith in
       same (sym (s .marks)) (sym (s .begins)) (sym n) (z ∙ sym (ap (λ (x : List Stretch). length (cells x)) (s .stretches)))
 
   pub start-out : (out : List ℕ) → sets (sets out 0 (take size buf)) size (pick (to-go buf size) (drop size buf)) ≡ sets out 0 (pick (marked-at place buf) buf)
   start-out out =
       let n : 0 + length (take size buf) ≡ size = omega (arith, length-take-le size buf (s .within)) in
-      sym (ap (sets out 0) (s .bytes) ∙ sets-join out 0 (take size buf) _ ∙ ap (λ (k : ℕ). sets (sets out 0 (take size buf)) k (pick (to-go buf size) (drop size buf))) n)
+      sym (ap (sets out 0) (s .bytes) ∙ sets-join out 0 (take size buf) _
+      ∙ ap (λ (k : ℕ). sets (sets out 0 (take size buf)) k (pick (to-go buf size) (drop size buf))) n)
 
 -- ---- when it fits for sure
 

@@ -1,5 +1,5 @@
--- Laws of the loops' turns: a turn that keeps the record at an index, a turn that drops the byte there, and the end. What a pass comes to is the same before and
--- after a turn. Assumes nothing.
+-- Laws of the loops' turns: a turn that keeps the record at an index, a turn that drops the byte there, and the end. What a pass comes to is the same before
+-- and after a turn. Assumes nothing.
 use Prim.Native.Nat.{ℕ, zero, suc, _+_, _-_, _*_, _≤_, _<_}
 use native.Mathlib.Omega.{arith}
 use native.Mathlib.Numerals.{add-one}

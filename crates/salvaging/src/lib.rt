@@ -122,7 +122,7 @@ fn measure(buf: &[u8], place: usize, begin: usize, size: usize) -> Passed
             at = end;
             from = place + end;
         } else {
-            at += 1;
+            at += 1; // no record begins here
         }
     }
     Passed {
@@ -167,7 +167,7 @@ fn pass(
             at = end;
             from = place + end;
         } else {
-            at += 1;
+            at += 1; // this byte is dropped
         }
     }
     Passed {

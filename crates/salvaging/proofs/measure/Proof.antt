@@ -80,7 +80,8 @@ loop-again c =
       l .inv .1,
       omega arith,
       omega (arith, c .numbers .ensures),
-      keep-passed (a .buf .now) (a .place) (l .at) (l .from) (omega arith) m (l .kept) (l .cells) (l .cells + c .numbers .result) (rw (c .numbers .ensures)) ∙ l .inv .4,
+      keep-passed (a .buf .now) (a .place) (l .at) (l .from) (omega arith) m (l .kept) (l .cells) (l .cells + c .numbers .result) (rw (c .numbers .ensures))
+          ∙ l .inv .4,
     )
 
 add-at : tie.Need-add-at Inv-loop μ-loop
