@@ -97,14 +97,14 @@ seed-past : Row (header-of 2 (0 ∷ 0 ∷ 0 ∷ 0 ∷ 1 ∷ 0 ∷ 0 ∷ 0 ∷ []
 unfolding kept dropped headed marks makes pick stretches closed cells recordOf
 seed-past = (refl, refl, refl)
 
--- Headers that are right, but not at byte 0: behind a header, behind a command record, and behind junk, where nothing was kept before them.
+-- Headers that are right, but not at byte 0: behind a header, behind command records, and behind junk, with nothing kept before it.
 header-at-16 : Row (header ++ header-of 1 (small 88) ++ create) (header ++ create) (16 ∷ 16 ∷ []) true
 unfolding kept dropped headed marks makes pick stretches closed cells recordOf
 header-at-16 = (refl, refl, refl)
 
-header-behind-command : Row (create ++ header ++ closep) (create ++ closep) (16 ∷ 16 ∷ []) false
+header-at-32 : Row (create ++ closep ++ header) (create ++ closep) (32 ∷ 16 ∷ []) false
 unfolding kept dropped headed marks makes pick stretches closed cells recordOf
-header-behind-command = (refl, refl, refl)
+header-at-32 = (refl, refl, refl)
 
 header-at-3 : Row (junk ++ header ++ create) create (0 ∷ 19 ∷ []) false
 unfolding kept dropped headed marks makes pick stretches closed cells recordOf
