@@ -33,10 +33,9 @@ static double now(void)
 /* a tape in pieces of 64 KiB, each behind the bytes that were held: here the tape lies in one buffer, so that nothing is moved; the sum of what was kept and listed */
 static uint64_t in_pieces(const uint8_t *tape, size_t n, uint8_t *out, uint64_t *list)
 {
-    uint64_t told[4] = { 0, 0, 0, 0 }, sum = 0, before = 1;
-    while (told[0] + 16 <= n && told[0] + 1 != before) {
+    uint64_t told[4] = { 0, 0, 0, 0 }, sum = 0;
+    while (told[0] + 16 <= n) {
         size_t size = n - told[0] < PIECE ? n - told[0] : PIECE;
-        before = told[0] + 1;
         if (salvage_bench_piece(told[0], told[1], tape + told[0], size, out, PIECE, list, PIECE / 8, told, 4))
             exit(1);
         sum += told[2] + told[3];

@@ -1,9 +1,9 @@
 -- Where the stretches stand: in order, none empty, whole records between two of them and at the tape's ends; and what is not listed is the new tape, byte for
 -- byte. By induction on the length of what is left: a record that is kept moves the place by 16. Assumes nothing.
-use Prim.Native.Nat.{ℕ, zero, suc, _+_, _-_, _*_, _%_, _≤_, _<_}
+use Prim.Native.Nat.{ℕ, zero, suc, _+_, _-_, _%_, _≤_, _<_}
 use native.Mathlib.Omega.{arith}
 use mathlib.Core.Path.{_≡_, refl, sym, ap, _∙_}
-use mathlib.Core.Bool.{Bool, true, false, cond}
+use mathlib.Core.Bool.{Bool, true, false}
 use mathlib.Core.List.{List, [], _∷_, _++_, append-assoc}
 use borrow.Author.Tests.{ltb-true, ltb-false}
 use lib.Dec.{ltb}
@@ -11,21 +11,10 @@ use lib.ListN.{length, take, drop, length-drop, length-append, take-append-drop}
 use lib.Seq.{length-take-le, drop-at, take-all, take-take, take-append-le}
 use Rattle.salvage_marks.specs.declared.Stretch.{Stretch}
 use Rattle.salvage_marks.specs.Torn.{makes, marks, pick, closed, stretches, kept-on, dropped-on, kept, dropped}
+use Rattle.salvage_marks.specs.Words.{Apart, cut}
 use Rattle.salvage_marks.proofs.Marks.{makes-long, kept-keep, kept-drop, dropped-keep, dropped-drop, closed-one, closed-no}
 
--- Stretches of a tape of n bytes, behind a place: the next begins whole records behind it, k bytes behind it at least, is not empty, and ends within the tape;
--- and so on from its end, 16 bytes behind it at least. Behind the last one stand whole records up to the tape's end.
-abbrev pub Apart : ℕ → ℕ → ℕ → List Stretch → Type 0
-Apart k place n [] = (place ≤ n) × ((n - place) % 16 ≡ 0)
-Apart k place n (x ∷ xs) =
-    (place + k ≤ x .first) × ((x .first - place) % 16 ≡ 0) × (0 < x .size) × (x .first + x .size ≤ n) × Apart 16 (x .first + x .size) n xs
-
--- The bytes of a tape from a place on that no stretch has.
-abbrev pub cut : ℕ → List Stretch → List ℕ → List ℕ
-cut place [] l = l
-cut place (x ∷ xs) l = take (x .first - place) l ++ cut (x .first + x .size) xs (drop (x .first + x .size - place) l)
-
--- What is shown of what is left of a tape, l, at the place `at`. Behind the place `base` whole records were kept up to `from`, and all bytes from there on were
+-- What is shown of what is left of a tape, l, at the place `at`. Behind the place `base` whole records were kept up to `from`, and all bytes from there on
 -- dropped.
 abbrev Stands : ℕ → ℕ → ℕ → ℕ → ℕ → List ℕ → List Stretch → List ℕ → Type 0
 Stands k base from at n l xs q = Apart k base n xs × ((r : List ℕ) → length r ≡ at - base → cut base xs (r ++ l) ≡ take (from - base) r ++ q)
@@ -80,7 +69,7 @@ module _ (k base from at n : ℕ) (o : base + k ≤ from) (w : (from - base) % 1
           let h : from < at = ltb-true from at b in
           let y : 16 ≤ length l = long in
           let d : at + 16 - at ≡ 16 = omega arith in
-          let rest = length-drop 16 l in
+          let m = length-drop 16 l in
           let z = ih false 16 at (at + 16) (at + 16) n (drop 16 l) (omega arith) (omega arith) (omega arith) (rw d) (omega arith) in
           let tk : take (at + 16 - at) (take 16 l) ≡ take 16 l = rw d (take-take 16 16 l (omega arith)) in
           let c : cut at xs l ≡ take 16 l ++ q =
@@ -89,7 +78,7 @@ module _ (k base from at n : ℕ) (o : base + k ≤ from) (w : (from - base) % 1
       go false b =
           let h : at ≤ from = ltb-false from at b in
           let v : 16 ≤ length l = long in
-          let rest = length-drop 16 l in
+          let m = length-drop 16 l in
           let z = ih false k base (at + 16) (at + 16) n (drop 16 l) (omega arith) (omega arith) (omega arith) (omega arith) (omega arith) in
           rw (closed-no from at xs h) (
             z .0,

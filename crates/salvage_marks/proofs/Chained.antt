@@ -1,25 +1,25 @@
--- A salvage in pieces is the salvage of the whole tape, whatever the pieces: by induction on the chain of answers. What each answer leaves to come is the rest
--- of the whole tape's marks. Assumes nothing.
+-- A salvage in pieces is the salvage of the whole tape, whatever the pieces: by induction on the chain of answers. What each answer leaves to come is the
+-- rest of the whole tape's marks. Assumes nothing.
 use Prim.Native.Nat.{ℕ, zero, suc, _+_, _-_, _*_, _≤_, _<_}
 use native.Mathlib.Omega.{arith}
 use mathlib.Core.Path.{_≡_, refl, sym, ap, _∙_}
-use mathlib.Core.Bool.{Bool, true, false, cond, _&&_, _||_, true≢false}
-use mathlib.Core.List.{List, [], _∷_, _++_, append-assoc, append-nil}
+use mathlib.Core.Bool.{Bool, true, false, cond, _&&_, _||_}
+use mathlib.Core.List.{List, [], _++_, append-assoc, append-nil}
 use borrow.Author.Tests.{leb-true, leb-false, le-leb, lt-leb, ne-eqb, le-ltb, ltb-false}
 use lib.Dec.{leb, ltb, eqb}
-use lib.ListN.{length, take, drop, length-append, length-drop}
-use lib.Seq.{sets, sets-eq, take-at, take-append-le}
-use Rattle.record.specs.Form.{isHeader}
+use lib.ListN.{length, drop, length-append, length-drop}
+use lib.Seq.{sets, take-append-le}
 use Rattle.salvage_marks.specs.declared.Stretch.{Stretch}
 use Rattle.salvage_marks.specs.declared.Torn.{Torn}
 use Rattle.salvage_marks.specs.declared.Fed.{Fed}
-use Rattle.salvage_marks.specs.Torn.{makes, marks, pick, closed, stretches, kept-on, dropped-on, kept, dropped, headed, cells}
-use Rattle.salvage_marks.specs.Pieces.{ahead, ended, begun, at-first, lastPlace, least, opened, decided, written, listed, after, held}
+use Rattle.salvage_marks.specs.Torn.{marks, pick, closed, stretches, kept-on, dropped-on, kept, dropped, headed, cells}
+use Rattle.salvage_marks.specs.Pieces.{ended, begun, at-first, lastPlace, least, opened, decided, written, listed, after, held}
 use Rattle.salvage_marks.specs.Pieces.{fedFits, fedOf, FedTo, lastOf, Chain, joined}
 use Rattle.salvage_marks.specs.Pieces.Chain.{end, feed}
-use Rattle.salvage_marks.proofs.Marks.{both-true, cells-join}
-use Rattle.salvage_marks.proofs.Ahead.{marks-ahead, ahead-short, rest-short, ahead-few, pick-join, stretches-join, begun-before, short-marks, pick-none}
-use Rattle.salvage_marks.proofs.Ahead.{one-stretch, pick-few, few-cells}
+use Rattle.salvage_marks.specs.Words.{Front}
+use Rattle.salvage_marks.proofs.Marks.{both-true, cells-join, fronted}
+use Rattle.salvage_marks.proofs.Ahead.{marks-ahead, ahead-short, rest-short, ahead-few, pick-join, stretches-join, begun-before}
+use Rattle.salvage_marks.proofs.Ahead.{short-marks, pick-none, one-stretch, pick-few, few-cells}
 
 place-zero : (a n : ℕ) → (eqb a 0 && eqb n 0) ≡ eqb (a + n) 0
 place-zero zero zero = refl
@@ -114,9 +114,6 @@ piece-headed t buf r = go (leb 16 (length buf)) refl
 
 -- ---- what an answer says
 
-front : (w s : List ℕ) → length w ≤ length s → take (length w) (sets s 0 w) ≡ w
-front w s o = ap (take (length w)) (sets-eq w s 0 (omega arith)) ∙ take-at w _ (length w) refl
-
 pub record Fits (t : Torn) (buf : List ℕ) (n m : ℕ) : Type 0 where
   pub place : t .place + length buf ≤ lastPlace
   pub bytes : length (written t buf) ≤ n
@@ -133,14 +130,14 @@ fed-fits t buf n m e =
       numbers = leb-true (length (cells (listed t buf))) m (a .1);
     }
 
-record Took (t : Torn) (buf : List ℕ) (r : Fed) (out′ list′ : List ℕ) : Type 0 where
-  place : t .place + length buf ≤ lastPlace
-  torn : r .torn ≡ after t buf
-  done : r .done ≡ length (decided t buf)
-  wrote : take (r .kept) out′ ≡ written t buf
-  list : take (r .cells) list′ ≡ cells (listed t buf)
+pub record Took (t : Torn) (buf out list : List ℕ) (r : Fed) (out′ list′ : List ℕ) : Type 0 where
+  pub place : t .place + length buf ≤ lastPlace
+  pub torn : r .torn ≡ after t buf
+  pub done : r .done ≡ length (decided t buf)
+  pub bytes : Front (r .kept) (written t buf) out out′
+  pub numbers : Front (r .cells) (cells (listed t buf)) list list′
 
-took : (t : Torn) (buf out list out′ list′ : List ℕ) (r : Fed) → FedTo t buf out list r out′ list′ → r .code ≡ 0 → Took t buf r out′ list′
+pub took : (t : Torn) (buf out list out′ list′ : List ℕ) (r : Fed) → FedTo t buf out list r out′ list′ → r .code ≡ 0 → Took t buf out list r out′ list′
 unfolding fedOf
 took t buf out list out′ list′ r f z = go (fedFits t buf (length out) (length list)) refl f
   where
@@ -153,15 +150,15 @@ took t buf out list out′ list′ r f z = go (fedFits t buf (length out) (lengt
           cells = length (cells (listed t buf));
         }) (record { code = 16; torn = t; done = 0; kept = 0; cells = 0 }))
         × (out′ ≡ cond {A = List ℕ} b (sets out 0 (written t buf)) out) × (list′ ≡ cond {A = List ℕ} b (sets list 0 (cells (listed t buf))) list)
-        → Took t buf r out′ list′
+        → Took t buf out list r out′ list′
     go true e (x, y, v) =
         let k = fed-fits t buf (length out) (length list) e in
         record {
           place = k .place;
           torn = ap (λ (q : Fed). q .torn) x;
           done = ap (λ (q : Fed). q .done) x;
-          wrote = rw (x, y) (front (written t buf) out (k .bytes));
-          list = rw (x, v) (front (cells (listed t buf)) list (k .numbers));
+          bytes = rw (x, y) (fronted (written t buf) out (k .bytes));
+          numbers = rw (x, v) (fronted (cells (listed t buf)) list (k .numbers));
         }
     go false e (x, y, v) = absurd (omega (arith, ap (λ (q : Fed). q .code) x))
 
@@ -193,8 +190,8 @@ pub one-kept : (s : List ℕ) → kept s ≡ written at-first s
 unfolding kept
 one-kept s =
     let l : List ℕ = held at-first s in
-    let z : Bool = eqb (after at-first s .place) 0 in
-    let k : kept-on z (l ++ []) ≡ [] = rw (append-nil l, short-marks z l (held-short at-first s)) (pick-none l) in
+    let first : Bool = eqb (after at-first s .place) 0 in
+    let k : kept-on first (l ++ []) ≡ [] = rw (append-nil l, short-marks first l (held-short at-first s)) (pick-none l) in
     rw (append-nil s, k, append-nil (written at-first s)) at (piece-written at-first s [])
 
 pub one-dropped : (s : List ℕ) → dropped s ≡ listed at-first s ++ closed (after at-first s .from) (length s) []
@@ -243,7 +240,7 @@ chain-whole {t} {h} (feed {p = q} {ps = ps} {w = w} {c = c} {b = b} r out list o
     let ed : drop (r .done) buf ≡ l = held-is t buf (r .done) (k .done) in
     let i : Whole-of a (l ++ joined ps) w c b =
     rw (k .torn, ed) at (chain-whole rest (rw ed (held-short t buf)) (rw (k .torn, ed) (held-place t buf (k .place)))) in
-    rw (← append-assoc h q (joined ps), k .wrote, k .list) (
+    rw (← append-assoc h q (joined ps), k .bytes .front, k .numbers .front) (
       ap (λ (x : List ℕ). written t buf ++ x) (i .0) ∙ sym (piece-written t buf (joined ps)),
       ap (λ (x : List ℕ). cells (listed t buf) ++ x) (i .1) ∙ sym (ap cells (piece-listed t buf (joined ps)) ∙ cells-join (listed t buf) _),
       i .2 ∙ sym (piece-headed t buf (joined ps)),

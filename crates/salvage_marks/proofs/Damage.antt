@@ -1,51 +1,21 @@
--- Which damage loses no record: bytes put between two records, or behind the last, so that no record begins among them; whole records cut out; and that at any
--- number of places. By the marks: those of whole records are what they were, and those of bytes in which no record begins are all false. Assumes nothing.
+-- Damage that loses no record: junk between two records, before the first or behind the last, in which no record begins; whole records cut out; and that at
+-- any number of places. By the marks: those of whole records are what they were, and those of bytes in which no record begins are all false. Assumes nothing.
 use Prim.Native.Nat.{ℕ, zero, suc, _+_, _≤_, _<_}
 use native.Mathlib.Omega.{arith}
-use mathlib.Core.Path.{_≡_, refl, sym, ap, _∙_}
+use mathlib.Core.Path.{_≡_, refl, ap, _∙_}
 use mathlib.Core.Bool.{Bool, true, false, cond}
 use mathlib.Core.List.{List, [], _∷_, _++_, append-nil}
 use borrow.Author.Tests.{le-leb, ne-eqb}
 use lib.Dec.{leb, eqb}
 use lib.ListN.{length, replicate, length-replicate}
 use lib.Seq.{drop-length}
-use Rattle.salvage_marks.specs.declared.Stretch.{Stretch}
-use Rattle.salvage_marks.specs.Torn.{makes, marks, pick, closed, stretches, kept, dropped}
+use Rattle.salvage_marks.specs.Torn.{makes, marks, pick, closed, stretches, kept, dropped, headed}
 use Rattle.salvage_marks.specs.Pieces.{ahead}
+use Rattle.salvage_marks.specs.Words.{Whole}
+use Rattle.salvage_marks.specs.Damage.{Clear, Gap, torn-at, saved, gaps, Loses-none}
 use Rattle.salvage_marks.proofs.Marks.{and-false, makes-long, makes-short, closed-none, stretches-trues}
-use Rattle.salvage_marks.proofs.Whole.{Whole}
 use Rattle.salvage_marks.proofs.Ahead.{marks-ahead}
-
--- no record begins in x, with r behind it
-abbrev pub Clear : List ℕ → List ℕ → Type 0
-Clear [] r = Unit {0}
-Clear (b ∷ x) r = (makes false (b ∷ (x ++ r)) ≡ false) × Clear x r
-
--- a place of damage: the bytes put there (none, where records were only cut out), and the records behind them, up to the next place
-pub record Gap : Type 0 where
-  pub junk : List ℕ
-  pub records : List ℕ
-
--- what stands on the torn tape behind its first records: gap by gap, and bytes at its end (a record that was cut short, or none)
-abbrev pub torn-at : List Gap → List ℕ → List ℕ
-torn-at [] end = end
-torn-at (g ∷ gs) end = g .junk ++ (g .records ++ torn-at gs end)
-
--- its records
-abbrev pub saved : List Gap → List ℕ
-saved [] = []
-saved (g ∷ gs) = g .records ++ saved gs
-
--- the bytes that were put there, as stretches
-abbrev pub gaps : ℕ → List Gap → List ℕ → List Stretch
-gaps at [] end = closed at (at + length end) []
-gaps at (g ∷ gs) end = closed at (at + length (g .junk)) (gaps (at + length (g .junk) + length (g .records)) gs end)
-
--- behind each gap stand whole records, one at least, and no record begins in what was put in
-abbrev pub Loses-none : List Gap → List ℕ → Type 0
-Loses-none [] end = Clear end []
-Loses-none (g ∷ gs) end =
-    (0 < length (g .records)) × Whole false (g .records) × Clear (g .junk) (g .records ++ torn-at gs end) × Loses-none gs end
+use Rattle.salvage_marks.proofs.Reader.{same-marks}
 
 -- ---- marks
 
@@ -155,3 +125,13 @@ module _ (a : List ℕ) (gs : List Gap) (end : List ℕ) (o : 0 < length a) (w :
       let z : 0 + length a ≡ length a = omega arith in
       ap (stretches 0 0) (marks-whole true a (torn-at gs end) o w) ∙ stretches-whole (length a) 0 0 (marks false zero (torn-at gs end)) o ∙ closed-none 0 _
       ∙ rw z (gaps-dropped (length a) gs end n)
+
+-- a tape that begins with a gap: byte 0 is then a place like any other
+module _ (gs : List Gap) (end : List ℕ) (n : Loses-none gs end) (h : headed (torn-at gs end) ≡ false) where
+  pub front-kept : kept (torn-at gs end) ≡ saved gs
+  unfolding kept
+  front-kept = ap (λ (m : List Bool). pick m (torn-at gs end)) (same-marks (torn-at gs end) h) ∙ gaps-kept gs end n
+
+  pub front-listed : dropped (torn-at gs end) ≡ gaps 0 gs end
+  unfolding dropped
+  front-listed = ap (stretches 0 0) (same-marks (torn-at gs end) h) ∙ gaps-dropped 0 gs end n

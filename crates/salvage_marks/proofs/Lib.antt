@@ -5,5 +5,7 @@ pub mod Reader
 pub mod Ahead
 pub mod Damage
 pub mod Chained
+pub mod Lost
+pub mod Answers
 pub mod Theorems
 pub mod Worked

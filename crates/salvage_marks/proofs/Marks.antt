@@ -5,13 +5,14 @@ use native.Mathlib.Numerals.{add-one}
 use mathlib.Core.Path.{_≡_, refl, sym, ap, _∙_}
 use mathlib.Core.Bool.{Bool, true, false, cond, _&&_, _||_, true≢false}
 use mathlib.Core.List.{List, [], _∷_, _++_}
-use borrow.Author.Tests.{leb-true, le-leb, lt-leb, lt-ltb, le-ltb, ltb-true}
+use borrow.Author.Tests.{leb-true, le-leb, lt-leb, lt-ltb, le-ltb}
 use lib.Dec.{leb, ltb}
 use lib.ListN.{length, take, drop, replicate, length-append}
-use lib.Seq.{length-take-le, take-at, take-append-le}
+use lib.Seq.{sets, sets-eq, length-take-le, take-at, drop-at, take-append-le}
 use Rattle.record.specs.Form.{isHeader, isCommand}
 use Rattle.salvage_marks.specs.declared.Stretch.{Stretch}
 use Rattle.salvage_marks.specs.Torn.{is-record, makes, marks, pick, closed, stretches, kept-on, dropped-on, cells}
+use Rattle.salvage_marks.specs.Words.{Front}
 
 -- ---- what makes a record
 
@@ -161,3 +162,15 @@ pub cells-long : (x : List Stretch) → length (cells x) ≡ 2 * length x
 unfolding cells
 cells-long [] = refl
 cells-long (x ∷ xs) = omega (arith, cells-long xs)
+
+-- ---- buffers
+
+-- what is written to a buffer's front stands there
+pub fronted : (w s : List ℕ) → length w ≤ length s → Front (length w) w s (sets s 0 w)
+fronted w s o =
+    let z : 0 + length w ≡ length w = omega arith in
+    let e : sets s 0 w ≡ w ++ drop (length w) s = rw z at (sets-eq w s 0 (omega arith)) in
+    record {
+      front = ap (take (length w)) e ∙ take-at w (drop (length w) s) (length w) refl;
+      rest = ap (drop (length w)) e ∙ drop-at w (drop (length w) s) (length w) refl;
+    }

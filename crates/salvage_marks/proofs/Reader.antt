@@ -7,23 +7,20 @@ use mathlib.Core.Bool.{Bool, true, false, cond, _&&_, _||_, true≢false}
 use mathlib.Core.List.{List, [], _∷_, _++_}
 use borrow.Author.Tests.{leb-true, le-leb, ne-eqb, ltb-true, ltb-false}
 use lib.Dec.{leb, ltb, eqb, lit<}
-use lib.ListN.{length, take, drop, getD, length-append, length-take, length-drop, List·getD-eq-default}
-use lib.Seq.{length-take-le, take-at, getD-take, getD-drop}
+use lib.ListN.{length, take, drop, getD, replicate, length-append, length-take, length-drop, List·getD-eq-default}
+use lib.Seq.{length-take-le, take-at, take-append-le, getD-take, getD-drop}
 use Rattle.record.specs.declared.Record.{Record}
-use Rattle.record.specs.Form.{isHeader, isCommand, marked, recordOf, bytesOf, headerFields, commandFields, isSeed}
+use Rattle.record.specs.Form.{isHeader, isCommand, marked, recordOf, bytesOf, headerFields, commandFields, isSeed, lastSeed}
 use Rattle.record.specs.Fault.{faultOf}
 use Rattle.record.proofs.RoundTrip.{bytes-spelt, sixteen-long, value-kept}
 use Rattle.record.proofs.Faults.{own-fault, unfaulted}
 use Rattle.tape.specs.Run.{tapeOf, Takes, answers, foundAll}
 use Rattle.tape.proofs.Writing.{accepted, accepts}
 use Rattle.tape.proofs.Runs.{run-there, run-answers}
-use Rattle.salvage_marks.specs.Torn.{is-record, makes, marks, pick, kept-on, kept, dropped, found-on, found, headed}
+use Rattle.salvage_marks.specs.Torn.{is-record, makes, marks, pick, kept-on, kept, found-on, found, headed}
+use Rattle.salvage_marks.specs.Words.{Bytes, Whole}
 use Rattle.salvage_marks.proofs.Marks.{both-true, and-false, makes-long, makes-record, kept-keep, kept-drop}
-use Rattle.salvage_marks.proofs.Whole.{Whole, whole-joined, whole-same}
-
--- every element is a byte
-abbrev pub Bytes : List ℕ → Type 0
-Bytes l = (i : ℕ) → getD l i 0 < 256
+use Rattle.salvage_marks.proofs.Whole.{whole-joined}
 
 -- ---- a tape that the reader reads
 
@@ -177,6 +174,31 @@ not-headed s = go (leb 16 (length s)) (isCommand (take 16 s)) (isHeader (take 16
     go true false false e = refl
     go false k h e = refl
 
+-- the marks too
+pub same-marks : (s : List ℕ) → headed s ≡ false → marks true zero s ≡ marks false zero s
+unfolding marks
+same-marks [] e = refl
+same-marks (b ∷ l) e = rw (not-headed (b ∷ l) e)
+
+same-start : (s : List ℕ) → headed s ≡ false → (kept-on true s ≡ kept-on false s) × (found-on true zero s ≡ found-on false zero s)
+unfolding found-on marks
+same-start [] e = (refl, refl)
+same-start (b ∷ l) e = (ap (λ (m : List Bool). pick m (b ∷ l)) (same-marks (b ∷ l) e), rw (not-headed (b ∷ l) e))
+
+-- The new tape is the kept records' bytes.
+pub new-tape : (s : List ℕ) → Bytes s → kept s ≡ tapeOf (found s)
+unfolding found kept
+new-tape s b = go (headed s) refl
+  where
+    go : (t : Bool) → headed s ≡ t → kept-on true s ≡ tapeOf (found-on true zero s)
+    go true e =
+        let h = headed-made s e in
+        let m = made (length (drop 16 s)) 0 16 (drop 16 s) (omega arith) (small-drop 16 s b) refl (λ q. omega arith) in
+        kept-keep true s (h .0) ∙ rw (found-keep true s (h .0), m .bytes, spelt true s b (h .0))
+    go false e =
+        let x = same-start s e in
+        rw (x .0, x .1) (made (length s) 0 16 s (omega arith) b refl (λ q. omega arith) .bytes)
+
 -- Where a header was kept, the new tape is read record for record, and then the end.
 pub reads-back : (s : List ℕ) → Bytes s → headed s ≡ true → answers (suc (length (found s))) (kept s) 0 ≡ foundAll 0 (found s)
 unfolding found kept
@@ -191,24 +213,29 @@ reads-back s b e =
       value-kept (take 16 s) (small-take 16 s b),
       m .taken (omega arith),
     ) in
-    let k : tapeOf (r ∷ rs) ≡ kept-on true s = rw (spelt true s b (h .0), ← m .bytes) (sym (kept-keep true s (h .0))) in
+    let k : tapeOf (r ∷ rs) ≡ kept-on true s = rw (found-keep true s (h .0)) at (sym (new-tape s b)) in
     rw (found-keep true s (h .0), ← k) (run-answers n (r ∷ rs) [] 0 refl refl (omega arith) t)
 
-same-start : (s : List ℕ) → headed s ≡ false → (kept-on true s ≡ kept-on false s) × (found-on true zero s ≡ found-on false zero s)
-unfolding pick marks found-on
-same-start [] e = (refl, refl)
-same-start (b ∷ l) e = rw (not-headed (b ∷ l) e) (refl, refl)
+-- a header's value is a seed, and so a number of 64 bits
+seed-small : (h : Record) → faultOf 0 h ≡ 0 → h .value < 18446744073709551616
+unfolding faultOf
+seed-small h = go (headerFields h) (isSeed (h .value)) refl
+  where
+    go : (a v : Bool) → isSeed (h .value) ≡ v → cond {A = ℕ} a (cond {A = ℕ} v 0 17) 15 ≡ 0 → h .value < 18446744073709551616
+    go true true e f = let o : h .value ≤ lastSeed = leb-true (h .value) lastSeed (both-true {x = leb 1 (h .value)} e .1) in omega arith
+    go true false e f = absurd (omega arith)
+    go false v e f = absurd (omega arith)
 
 -- Where none was, it is read so behind any header.
-pub reads-under : (s : List ℕ) → Bytes s → headed s ≡ false → (h : Record) → faultOf 0 h ≡ 0 → h .value < 18446744073709551616
+pub reads-under : (s : List ℕ) → Bytes s → headed s ≡ false → (h : Record) → faultOf 0 h ≡ 0
     → answers (suc (suc (length (found s)))) (bytesOf h ++ kept s) 0 ≡ foundAll 0 (h ∷ found s)
 unfolding found kept
-reads-under s b e h f small =
+reads-under s b e h f =
     let x = same-start s e in
     let rs : List Record = found-on false zero s in
     let n : ℕ = 16 + 16 * length rs in
     let m = made (length s) n 16 s (omega arith) b refl (λ q. omega arith) in
-    let t : Takes n 0 (h ∷ rs) = (accepts (record { whole = refl; fields = f; room = omega arith }), small, m .taken (omega arith)) in
+    let t : Takes n 0 (h ∷ rs) = (accepts (record { whole = refl; fields = f; room = omega arith }), seed-small h f, m .taken (omega arith)) in
     rw (x .0, x .1, m .bytes) (run-answers n (h ∷ rs) [] 0 refl refl (omega arith) t)
 
 -- ---- the new tape's header
@@ -232,22 +259,38 @@ begins p q n e =
     let b : Bool = leb 16 (length (p ++ q)) in
     ap (λ (x : List ℕ). b && isHeader x) (take-at p q 16 n) ∙ ap (λ (x : Bool). b && x) e ∙ and-false b
 
+-- what makes a record behind byte 0 is a command record
+command-made : (l : List ℕ) → makes false l ≡ true → isCommand (take 16 l) ≡ true
+command-made l e = go (isCommand (take 16 l)) (makes-record false l e)
+  where
+    go : (x : Bool) → (x || false) ≡ true → x ≡ true
+    go true e = refl
+    go false e = e
+
+-- command records at byte 0 are no header
+pub commands-first : (a r : List ℕ) → 0 < length a → Whole false a → headed (a ++ r) ≡ false
+unfolding headed marks
+commands-first [] r o w = absurd (omega arith)
+commands-first (b ∷ a) r o w = go (makes false (b ∷ a)) refl w
+  where
+    go : (t : Bool) → makes false (b ∷ a) ≡ t
+        → cond {A = List Bool} t (true ∷ marks false 15 a) (false ∷ marks false zero a) ≡ true ∷ replicate (length a) true → headed (b ∷ (a ++ r)) ≡ false
+    go true e w =
+        let n : 16 ≤ length (b ∷ a) = makes-long false (b ∷ a) e in
+        rw (take-append-le 16 (b ∷ a) r n, command-no-header (take 16 (b ∷ a)) (command-made (b ∷ a) e)) (and-false (leb 16 (length (b ∷ (a ++ r)))))
+    go false e w = let z : _≡_ {A = ℕ} 0 1 = cc in absurd (omega arith)
+
 -- records behind byte 0 make no header
 later-headed : (l : List ℕ) → headed (kept-on false l) ≡ false
 unfolding headed marks pick
 later-headed [] = refl
 later-headed (b ∷ l) = go (makes false (b ∷ l)) refl (later-headed l)
   where
-    or-none : (x : Bool) → (x || false) ≡ true → x ≡ true
-    or-none true e = refl
-    or-none false e = e
-
     go : (t : Bool) → makes false (b ∷ l) ≡ t → headed (kept-on false l) ≡ false → headed (kept-on false (b ∷ l)) ≡ false
     go true e ih =
         let p : List ℕ = take 16 (b ∷ l) in
         let n : length p ≡ 16 = length-take-le 16 (b ∷ l) (makes-long false (b ∷ l) e) in
-        let c : isCommand p ≡ true = or-none (isCommand p) (makes-record false (b ∷ l) e) in
-        rw (kept-keep false (b ∷ l) e) (begins p (kept-on false (drop 16 (b ∷ l))) n (command-no-header p c))
+        rw (kept-keep false (b ∷ l) e) (begins p (kept-on false (drop 16 (b ∷ l))) n (command-no-header p (command-made (b ∷ l) e)))
     go false e ih = rw (kept-drop false b l e) ih
 
 -- the new tape has a header exactly where one was kept

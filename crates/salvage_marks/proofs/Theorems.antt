@@ -1,28 +1,30 @@
--- What is promised of a salvage. Each promise in a sentence, and what it rules out; the proofs stand in the files beside this one. Assumes nothing.
+-- What is promised of a salvage. Above each promise stands what it says and which wrong salvage it rules out; the proofs stand in the files beside this one.
+-- The words are those of specs/: Torn and Pieces say what a salvage is, Words and Damage what is said of it. Assumes nothing.
 use Prim.Native.Nat.{ℕ, suc, _+_, _*_, _≤_, _<_}
 use native.Mathlib.Omega.{arith}
-use mathlib.Core.Path.{_≡_, refl}
-use mathlib.Core.Bool.{Bool, true, false, cond, _&&_}
+use mathlib.Core.Path.{_≡_}
+use mathlib.Core.Logic.{_↔_}
+use mathlib.Core.Bool.{Bool, true, false}
 use mathlib.Core.List.{List, [], _∷_, _++_}
-use borrow.Author.Tests.{leb-true, leb-false}
-use lib.Dec.{leb, eqb}
-use lib.ListN.{length}
+use lib.Dec.{eqb}
+use lib.ListN.{length, drop}
 use Rattle.record.specs.Form.{bytesOf}
 use Rattle.record.specs.Fault.{faultOf}
 use Rattle.record.specs.declared.Record.{Record}
 use Rattle.tape.specs.Run.{tapeOf, Takes, answers, foundAll}
 use Rattle.salvage_marks.specs.declared.Salvaged.{Salvaged}
 use Rattle.salvage_marks.specs.declared.Torn.{Torn}
-use Rattle.salvage_marks.specs.Torn.{kept, dropped, found, headed, cells, total, fits, salvagedOf}
-use Rattle.salvage_marks.specs.Pieces.{at-first, lastPlace, fedFits, Chain, joined}
-use Rattle.salvage_marks.proofs.Marks.{cells-long}
-use Rattle.salvage_marks.proofs.Whole.{Whole, each-byte, kept-long, new-whole, whole-same}
+use Rattle.salvage_marks.specs.declared.Fed.{Fed}
+use Rattle.salvage_marks.specs.Torn.{kept, dropped, found, headed, cells, total, salvagedOf, SalvagedTo}
+use Rattle.salvage_marks.specs.Pieces.{at-first, lastPlace, written, listed, fedFits, fedOf, FedTo, Chain, joined}
+use Rattle.salvage_marks.specs.Words.{Bytes, Whole, Apart, cut, stands, kept-at, Has, byte-kept, Front, Answered, PieceAnswered}
+use Rattle.salvage_marks.specs.Damage.{Gap, torn-at, saved, gaps, Loses-none}
+use Rattle.salvage_marks.proofs.Whole as whole
 use Rattle.salvage_marks.proofs.Apart as places
-use Rattle.salvage_marks.proofs.Apart.{Apart, cut}
+use Rattle.salvage_marks.proofs.Lost as lost
 use Rattle.salvage_marks.proofs.Reader as reader
-use Rattle.salvage_marks.proofs.Reader.{Bytes}
 use Rattle.salvage_marks.proofs.Damage as damage
-use Rattle.salvage_marks.proofs.Damage.{Gap, torn-at, saved, gaps, Loses-none}
+use Rattle.salvage_marks.proofs.Answers as told
 use Rattle.salvage_marks.proofs.Chained as chained
 
 -- ---- Old tape, new tape, list
@@ -30,26 +32,58 @@ use Rattle.salvage_marks.proofs.Chained as chained
 -- Kept records times 16 plus the listed lengths is the old tape's length.
 -- Rules out: a byte that is neither kept nor listed, or both.
 pub adds-up : (s : List ℕ) → 16 * length (found s) + total (dropped s) ≡ length s
-adds-up s = each-byte s
+adds-up s = whole.each-byte s
 
--- The stretches stand in order. Each has a byte and lies on the tape. Between two of them stand 16 bytes at least, and whole records only; so too before the
--- first and behind the last. Rules out: a stretch listed in two parts, or twice, or out of order.
+-- The stretches stand in order. Each has a byte and lies on the tape. Between two of them stand 16 bytes, or 32, or another multiple of 16; before the first
+-- and behind the last stands a multiple of 16 bytes too, and there it may be none.
+-- Rules out: a stretch listed in two parts, or twice, or out of order.
 pub apart : (s : List ℕ) → Apart 0 0 (length s) (dropped s)
 apart s = places.all-apart s
 
--- The listed stretches cut out of the old tape leave the new tape, byte for byte: between two stretches stand the kept records, at the bytes where they were.
+-- The listed stretches cut out of the old tape leave the new tape, byte for byte.
 -- Rules out: a stretch with a kept byte in it, and a dropped byte in none.
 pub cut-out : (s : List ℕ) → cut 0 (dropped s) s ≡ kept s
 cut-out s = places.cut-out s
 
+-- The new tape is the kept records' bytes, one record behind another. With `apart` and `cut-out`: what stands between the stretches of the old tape are the
+-- kept records, whole, each at the bytes where it was.
+-- Rules out: a count of records that the new tape does not hold.
+pub new-tape : (s : List ℕ) → Bytes s → kept s ≡ tapeOf (found s)
+new-tape s b = reader.new-tape s b
+
 -- An undamaged tape, one that the reader reads to its end, comes out the same, with an empty list.
 -- Rules out: a salvage that drops a record of a good tape.
 pub undamaged : (s : List ℕ) → Bytes s → (rs : List Record) → answers (suc (length rs)) s 0 ≡ foundAll 0 rs → (kept s ≡ s) × (dropped s ≡ [])
-undamaged s b rs e = whole-same s (reader.read-whole s b rs e)
+undamaged s b rs e = whole.whole-same s (reader.read-whole s b rs e)
 
--- Salvaging the new tape changes nothing more. Rules out: a new tape with a byte that belongs to no record.
+-- Salvaging the new tape changes nothing more.
+-- Rules out: a new tape with a byte that belongs to no record.
 pub twice : (s : List ℕ) → (kept (kept s) ≡ kept s) × (dropped (kept s) ≡ [])
-twice s = whole-same (kept s) (new-whole s)
+twice s = whole.whole-same (kept s) (whole.new-whole s)
+
+-- ---- Which records are kept
+
+-- A byte is kept exactly if it belongs to a kept record.
+-- Rules out: a record that is kept in part.
+pub by-records : (s : List ℕ) (i : ℕ) → (byte-kept s i ≡ true) ↔ ((at : ℕ) × Has s at i)
+by-records s i = (lost.kept-of-record s i, λ h. lost.record-kept s i (h .0) (h .1))
+
+-- A record is kept only where it makes one: a header at byte 0, a command record anywhere.
+-- Rules out: a header that is kept anywhere else.
+pub kept-stands : (s : List ℕ) (at : ℕ) → kept-at s at ≡ true → stands s at ≡ true
+kept-stands s at h = lost.kept-stands s at h
+
+-- Of the records that stand on a torn tape exactly those are lost into which a kept record reaches that begins before them.
+-- Rules out: a salvage that keeps the later of two records that overlap, or neither.
+pub lost-exactly : (s : List ℕ) (at : ℕ) → stands s at ≡ true → (kept-at s at ≡ false) ↔ ((before : ℕ) × (before < at) × Has s before at)
+lost-exactly s at h = (lost.lost-under s at h, λ x. lost.under-lost s at (x .0) (x .1) (x .2))
+
+-- A record right behind a kept one is kept. With `lost-exactly`: records that stand one behind another are all kept exactly if no kept record that begins
+-- before the first of them reaches into it. So damage behind a kept record loses none of the records behind it exactly if no kept record that begins in the
+-- damage reaches past its end.
+-- Rules out: a salvage that skips a record.
+pub next-kept : (s : List ℕ) (at : ℕ) → kept-at s at ≡ true → stands s (at + 16) ≡ true → kept-at s (at + 16) ≡ true
+next-kept s at k h = lost.next-kept s at k h
 
 -- ---- The new tape and the reader
 
@@ -58,27 +92,39 @@ twice s = whole-same (kept s) (new-whole s)
 pub reads-back : (s : List ℕ) → Bytes s → headed s ≡ true → answers (suc (length (found s))) (kept s) 0 ≡ foundAll 0 (found s)
 reads-back s b e = reader.reads-back s b e
 
--- Where none was, it does so behind any header.
-pub reads-under : (s : List ℕ) → Bytes s → headed s ≡ false → (h : Record) → faultOf 0 h ≡ 0 → h .value < 18446744073709551616
+-- Where none was kept, the new tape is a tape behind any header: the reader finds that header, then the kept records, each in turn, and then the end.
+pub reads-under : (s : List ℕ) → Bytes s → headed s ≡ false → (h : Record) → faultOf 0 h ≡ 0
     → answers (suc (suc (length (found s)))) (bytesOf h ++ kept s) 0 ≡ foundAll 0 (h ∷ found s)
-reads-under s b e h f v = reader.reads-under s b e h f v
+reads-under s b e h f = reader.reads-under s b e h f
 
--- The new tape begins with a header exactly where the salvage says so. Rules out: a header on a new tape that is said to have none.
+-- The new tape begins with a header exactly where the salvage says so.
+-- Rules out: a header on a new tape that is said to have none.
 pub header-kept : (s : List ℕ) → headed (kept s) ≡ headed s
 header-kept s = reader.header-kept s
 
--- ---- Which damage loses no record
+-- ---- Damage that loses no record: what the new tape and the list are then (`next-kept` says exactly which damage it is)
 
--- Records that the writer takes one behind another, from byte 0 (a header first) or from a later place on, are whole: every byte of them is kept.
+-- Records that the writer takes one behind another are whole: every byte of them is kept. From byte 0 on the first of them is a header; from any other place
+-- on all are command records.
 pub records-whole : (n at : ℕ) (rs : List Record) → Takes n at rs → Whole (eqb at 0) (tapeOf rs)
 records-whole n at rs t = reader.tape-whole n at rs t
 
--- Records a, the tape's first; then at any number of places bytes put in, or records cut out; and bytes behind the last record. If no record begins in what was
--- put in, all the records that are there are kept, and exactly what was put in is listed.
+-- The torn tape begins with records, a; then come gaps, each with records behind it; then its end. If no command record begins in junk or in the end, all the
+-- records are kept, and the list is the junk and the end, and nothing else.
 -- Rules out: a salvage that misses a record behind damage.
 pub none-lost : (a : List ℕ) (gs : List Gap) (end : List ℕ) → 0 < length a → Whole true a → Loses-none gs end
     → (kept (a ++ torn-at gs end) ≡ a ++ saved gs) × (dropped (a ++ torn-at gs end) ≡ gaps (length a) gs end)
 none-lost a gs end o w n = (damage.none-lost a gs end o w n, damage.all-listed a gs end o w n)
+
+-- The same of a torn tape that begins with a gap: it begins in the middle, or with junk, or its header is spoilt or cut out. No header stands at its byte 0.
+-- Rules out: a salvage that wants a header, or a record at byte 0.
+pub none-lost-headless : (gs : List Gap) (end : List ℕ) → headed (torn-at gs end) ≡ false → Loses-none gs end
+    → (kept (torn-at gs end) ≡ saved gs) × (dropped (torn-at gs end) ≡ gaps 0 gs end)
+none-lost-headless gs end h n = (damage.front-kept gs end n h, damage.front-listed gs end n h)
+
+-- A tape that begins with command records has no header at byte 0: so where the first gap has no junk, `none-lost-headless` asks nothing more.
+pub commands-first : (a r : List ℕ) → 0 < length a → Whole false a → headed (a ++ r) ≡ false
+commands-first a r o w = reader.commands-first a r o w
 
 -- Fewer than 16 bytes behind the last record are no record: a tape that was cut off anywhere loses only the record that was cut.
 pub cut-short : (x : List ℕ) → length x ≤ 15 → Loses-none [] x
@@ -86,30 +132,22 @@ cut-short x o = damage.short-clear x o
 
 -- ---- Room
 
--- A salvage's answer over buffers of n bytes and m numbers: 0 and its counts where the records, 16 bytes each, and the list, two numbers a stretch, fit; and
--- 16 where the one or the other does not.
-pub data Answered (s : List ℕ) (n m : ℕ) : Salvaged → Type 0 where
-  whole : 16 * length (found s) ≤ n → 2 * length (dropped s) ≤ m
-      → Answered s n m (record { code = 0; records = length (found s); stretches = length (dropped s); headed = headed s })
-  no-bytes : n < 16 * length (found s) → Answered s n m (record { code = 16; records = 0; stretches = 0; headed = false })
-  no-numbers : m < 2 * length (dropped s) → Answered s n m (record { code = 16; records = 0; stretches = 0; headed = false })
-
+-- Code 0 exactly if the records and the list fit the buffers, and 16 exactly if not.
 -- Rules out: a salvage refused that would fit, and one that is not refused and does not.
 pub room-exactly : (s : List ℕ) (n m : ℕ) → Answered s n m (salvagedOf s n m)
-unfolding salvagedOf fits
-room-exactly s n m = go (leb (length (kept s)) n) refl (leb (length (cells (dropped s))) m) refl
-  where
-    go : (x : Bool) → leb (length (kept s)) n ≡ x → (y : Bool) → leb (length (cells (dropped s))) m ≡ y
-        → Answered s n m (cond {A = Salvaged} (x && y) (record { code = 0; records = length (found s); stretches = length (dropped s); headed = headed s })
-        (record { code = 16; records = 0; stretches = 0; headed = false }))
-    go true e true d =
-        let a : length (kept s) ≤ n = leb-true (length (kept s)) n e in
-        let b : length (cells (dropped s)) ≤ m = leb-true (length (cells (dropped s))) m d in
-        whole (omega (arith, kept-long s)) (omega (arith, cells-long (dropped s)))
-    go true e false d =
-        let b : m < length (cells (dropped s)) = leb-false (length (cells (dropped s))) m d in
-        no-numbers (omega (arith, cells-long (dropped s)))
-    go false e y d = let a : n < length (kept s) = leb-false (length (kept s)) n e in no-bytes (omega (arith, kept-long s))
+room-exactly s n m = told.room-exactly s n m
+
+-- Code 16: both buffers are as they were.
+-- Rules out: a salvage that is refused after it wrote something.
+pub refused-untouched : (s out list out′ list′ : List ℕ) (r : Salvaged) → SalvagedTo s out list r out′ list′ → r .code ≡ 16 → (out′ ≡ out) × (list′ ≡ list)
+refused-untouched s out list out′ list′ r f z = told.salvage-refused s out list out′ list′ r f z
+
+-- Code 0: the new tape stands at the front of the one buffer, 16 bytes for each record that is counted, and the list at the front of the other, two numbers
+-- for each stretch; what stands behind them is as it was.
+-- Rules out: counts that are not those of what was written.
+pub accepted-written : (s out list out′ list′ : List ℕ) (r : Salvaged) → SalvagedTo s out list r out′ list′ → r .code ≡ 0
+    → Front (16 * r .records) (kept s) out out′ × Front (2 * r .stretches) (cells (dropped s)) list list′
+accepted-written s out list out′ list′ r f z = told.salvage-written s out list out′ list′ r f z
 
 -- ---- In pieces
 
@@ -120,6 +158,29 @@ pub in-pieces : (ps : List (List ℕ)) {w c : List ℕ} {b : Bool} → Chain at-
 unfolding kept dropped
 in-pieces ps x = chained.chain-whole x (omega arith) (omega arith)
 
--- No piece is refused whose place can be said in 64 bits, over a buffer of as many bytes and one of a number for each whole 8 of them.
+-- Code 0 exactly if the piece's end can be said in 64 bits and what is to be written and listed fits the buffers, and 16 exactly if not.
+-- Rules out: a piece that is refused for want of room that it does not need.
+pub piece-room-exactly : (t : Torn) (buf : List ℕ) (n m : ℕ) → PieceAnswered t buf n m (fedOf t buf n m)
+piece-room-exactly t buf n m = told.piece-room t buf n m
+
+-- Code 16: both buffers are as they were.
+-- Rules out: a piece that is refused after something of it was written.
+pub piece-refused-untouched : (t : Torn) (buf out list out′ list′ : List ℕ) (r : Fed) → FedTo t buf out list r out′ list′ → r .code ≡ 16
+    → (out′ ≡ out) × (list′ ≡ list)
+piece-refused-untouched t buf out list out′ list′ r f z = told.piece-refused t buf out list out′ list′ r f z
+
+-- Code 0: what is kept of the piece stands at the front of the one buffer and what is listed at the front of the other, as many bytes and numbers as are
+-- counted; what stands behind them is as it was.
+pub piece-accepted-written : (t : Torn) (buf out list out′ list′ : List ℕ) (r : Fed) → FedTo t buf out list r out′ list′ → r .code ≡ 0
+    → Front (r .kept) (written t buf) out out′ × Front (r .cells) (cells (listed t buf)) list list′
+piece-accepted-written t buf out list out′ list′ r f z = told.piece-written t buf out list out′ list′ r f z
+
+-- Code 0: fewer than 16 bytes are left for the next piece. So a buffer of fixed size serves a tape of any length.
+-- Rules out: a salvage that waits for more bytes than a record has.
+pub piece-held-few : (t : Torn) (buf out list out′ list′ : List ℕ) (r : Fed) → FedTo t buf out list r out′ list′ → r .code ≡ 0
+    → (r .done ≤ length buf) × (length (drop (r .done) buf) ≤ 15)
+piece-held-few t buf out list out′ list′ r f z = told.piece-held t buf out list out′ list′ r f z
+
+-- No piece is refused whose end can be said in 64 bits, over a buffer of as many bytes and one of a number for each whole 8 of them.
 pub piece-fits : (t : Torn) (buf : List ℕ) (n m : ℕ) → t .place + length buf ≤ lastPlace → length buf ≤ n → length buf < 8 * m + 8 → fedFits t buf n m ≡ true
 piece-fits t buf n m p a b = chained.enough t buf n m p a b

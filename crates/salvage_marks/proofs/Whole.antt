@@ -1,6 +1,6 @@
 -- Each byte is kept or listed; the new tape is whole, that is, every byte of it is kept; and of a whole tape nothing is dropped. By induction on the marks, and
 -- where a record is kept, on the length of what is left. Assumes nothing.
-use Prim.Native.Nat.{ℕ, zero, suc, _+_, _-_, _*_, _≤_, _<_}
+use Prim.Native.Nat.{ℕ, zero, suc, _+_, _-_, _*_, _≤_}
 use native.Mathlib.Omega.{arith}
 use mathlib.Core.Path.{_≡_, refl, sym, ap, _∙_}
 use mathlib.Core.Bool.{Bool, true, false, cond, true≢false}
@@ -13,6 +13,7 @@ use Rattle.record.specs.Form.{recordOf}
 use Rattle.record.specs.declared.Record.{Record}
 use Rattle.salvage_marks.specs.declared.Stretch.{Stretch}
 use Rattle.salvage_marks.specs.Torn.{makes, marks, pick, closed, stretches, kept-on, total, kept, dropped, found-on, found}
+use Rattle.salvage_marks.specs.Words.{Whole}
 use Rattle.salvage_marks.proofs.Marks.{makes-long, makes-front, makes-first, marks-keep, marks-long, kept-keep, kept-drop, closed-none}
 
 -- ---- each byte is kept or listed
@@ -59,10 +60,6 @@ unfolding dropped kept
 each-byte s = omega (arith, kept-long s, all-bytes 0 0 (marks true zero s) s (marks-long true zero s) (omega arith))
 
 -- ---- whole
-
--- every byte is kept
-abbrev pub Whole : Bool → List ℕ → Type 0
-Whole f l = marks f zero l ≡ replicate (length l) true
 
 -- 16 bytes that make a record, before what is whole
 pub whole-joined : (f : Bool) (p r : List ℕ) → length p ≡ 16 → makes f (p ++ r) ≡ true → Whole false r → Whole f (p ++ r)

@@ -26,7 +26,7 @@ ended from at [] = []
 ended from at (true ∷ ms) = closed from at (ended (suc at) (suc at) ms)
 ended from at (false ∷ ms) = ended from (suc at) ms
 
--- where the stretch begins that has not
+-- where the stretch begins that has not ended; where none is open, the place behind the marks
 unfoldable pub begun : ℕ → ℕ → List Bool → ℕ
 begun from at [] = from
 begun from at (true ∷ ms) = begun (suc at) (suc at) ms
@@ -36,7 +36,7 @@ begun from at (false ∷ ms) = begun from (suc at) ms
 abbrev pub at-first : Torn
 at-first = record { place = 0; from = 0; headed = false }
 
--- the last place that a number of 64 bits can say: no tape is longer
+-- the last place that a number of 64 bits can say; a tape may end there, and not behind it
 abbrev pub lastPlace : ℕ
 lastPlace = 18446744073709551615
 
@@ -44,7 +44,7 @@ lastPlace = 18446744073709551615
 abbrev pub least : ℕ → ℕ → ℕ
 least x y = cond (ltb y x) y x
 
--- where the open stretch begins; past the place (no salvage leaves that) it counts as the place
+-- where the open stretch begins; where a caller made up one that begins past the place, it begins at the place
 abbrev pub opened : Torn → ℕ
 opened t = least (t .from) (t .place)
 
@@ -52,13 +52,16 @@ opened t = least (t .from) (t .place)
 abbrev pub decided : Torn → List ℕ → List Bool
 decided t buf = ahead (eqb (t .place) 0) zero buf
 
--- what is written and listed of them, and the salvage behind them; the rest of `buf` is held
+-- the bytes of buf that are written to the new tape
 unfoldable pub written : Torn → List ℕ → List ℕ
 written t buf = pick (decided t buf) buf
 
+-- the stretches that ended in buf
 unfoldable pub listed : Torn → List ℕ → List Stretch
 listed t buf = ended (opened t) (t .place) (decided t buf)
 
+-- The salvage behind the decided bytes. A header is kept where it stands at byte 0, in the first piece. Once it is said
+-- that one was kept, it stays said, also where a caller made that up.
 unfoldable pub after : Torn → List ℕ → Torn
 after t buf =
     record {
@@ -67,15 +70,17 @@ after t buf =
       headed = t .headed || (eqb (t .place) 0 && headed buf);
     }
 
+-- the bytes of buf that are not decided: they are held, and stand in front of the next piece
 unfoldable pub held : Torn → List ℕ → List ℕ
 held t buf = drop (length (decided t buf)) buf
 
--- it fits: no place passes the last one, and buffers of n bytes and m numbers hold what is written and listed
+-- it fits: buf does not end behind the last place, and buffers of n bytes and m numbers hold what is written and listed
 unfoldable pub fedFits : Torn → List ℕ → ℕ → ℕ → Bool
 fedFits t buf n m =
     leb (t .place + length buf) lastPlace && leb (length (written t buf)) n && leb (length (cells (listed t buf))) m
 
--- A piece answers 0, what is behind it and its counts, or 16, Room, the salvage as it was, and zeros.
+-- A piece answers 0, the salvage behind it and its counts; or, where it does not fit, 16, the salvage as it was, and
+-- zeros.
 unfoldable pub fedOf : Torn → List ℕ → ℕ → ℕ → Fed
 fedOf t buf n m =
     cond (fedFits t buf n m)
@@ -96,16 +101,18 @@ FedTo t buf out list r out′ list′ =
     × (out′ ≡ cond (fedFits t buf (length out) (length list)) (sets out 0 (written t buf)) out)
     × (list′ ≡ cond (fedFits t buf (length out) (length list)) (sets list 0 (cells (listed t buf))) list)
 
--- the last stretch of a tape that ends with so many bytes undecided: these are dropped; its size is 0 where there is
--- none
+-- The last stretch of a tape that ends with n bytes undecided. These are dropped, so it goes from where the open one
+-- begins up to the tape's end. No tape ends behind the last place: a sum that passes it counts as it. The size is 0
+-- where there is no last stretch.
 unfoldable pub lastOf : Torn → ℕ → Stretch
 lastOf t n = record { first = opened t; size = least (t .place + n) lastPlace - opened t }
 
--- the buffer with its bytes from `done` up to `n` moved to its front, and how many they are; where there are no such
--- bytes, as it was, and 0
+-- a buffer has bytes from `done` up to `n`, perhaps none
 unfoldable pub movable : List ℕ → ℕ → ℕ → Bool
 movable s done n = leb done n && leb n (length s)
 
+-- The contract of moving the held bytes: those from `done` up to `n` stand at the buffer's front, and how many they are
+-- is the answer; where the buffer has no such bytes, it is as it was, and the answer is 0.
 abbrev pub MovedTo : List ℕ → ℕ → ℕ → ℕ → List ℕ → Type 0
 MovedTo s done n r s′ =
     (r ≡ cond (movable s done n) (n - done) 0)

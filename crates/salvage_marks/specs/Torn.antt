@@ -1,5 +1,5 @@
--- Request 5, what can be got from a torn tape: which bytes are kept, the new tape, and the stretches that are dropped.
--- Assumes nothing.
+-- The salvage of a torn tape, one with bytes missing, spoilt or put in: which of its bytes are kept, the new tape that
+-- they make, and the stretches that are dropped. Assumes nothing.
 use Prim.Native.Nat.{ℕ, zero, suc, _+_, _-_}
 use mathlib.Core.Path.{_≡_}
 use mathlib.Core.List.{List, [], _∷_}
@@ -44,10 +44,11 @@ stretches from at [] = closed from at []
 stretches from at (true ∷ ms) = closed from at (stretches (suc at) (suc at) ms)
 stretches from at (false ∷ ms) = stretches from (suc at) ms
 
--- the same two of what is left of a tape
+-- the kept bytes of what is left of a tape
 abbrev pub kept-on : Bool → List ℕ → List ℕ
 kept-on first l = pick (marks first zero l) l
 
+-- the dropped stretches of what is left of a tape, from the place `at` on, where every byte since `from` was dropped
 abbrev pub dropped-on : Bool → ℕ → ℕ → List ℕ → List Stretch
 dropped-on first from at l = stretches from at (marks first zero l)
 
@@ -59,13 +60,14 @@ kept s = kept-on true s
 unfoldable pub dropped : List ℕ → List Stretch
 dropped s = dropped-on true 0 0 s
 
--- The kept records; from a place on, where k bytes more belong to one that was counted.
+-- the kept records of what is left of a tape, where k bytes more belong to one that was counted before
 unfoldable pub found-on : Bool → ℕ → List ℕ → List Record
 found-on first k [] = []
 found-on first (suc k) (b ∷ l) = found-on false k l
 found-on first zero (b ∷ l) =
     cond (makes first (b ∷ l)) (recordOf (take 16 (b ∷ l)) ∷ found-on false 15 l) (found-on false zero l)
 
+-- The kept records.
 unfoldable pub found : List ℕ → List Record
 found s = found-on true zero s
 
@@ -87,7 +89,7 @@ total (x ∷ xs) = x .size + total xs
 unfoldable pub fits : List ℕ → ℕ → ℕ → Bool
 fits s n m = leb (length (kept s)) n && leb (length (cells (dropped s))) m
 
--- A salvage answers 0 and its counts, or 16, Room, and zeros.
+-- A salvage answers 0 and its counts; or, where the buffers have no room for all of it, 16 and zeros.
 unfoldable pub salvagedOf : List ℕ → ℕ → ℕ → Salvaged
 salvagedOf s n m =
     cond (fits s n m)

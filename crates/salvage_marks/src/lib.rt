@@ -7,7 +7,8 @@ pub struct Stretch {
     pub size: u64,
 }
 
-// A whole tape's salvage: 0 or 16, the records kept, the stretches dropped, and whether a header was kept.
+// A whole tape's salvage: code 0, or 16 where the buffers have no room for it; how many records are kept, how many
+// stretches dropped, and whether a header was kept.
 pub struct Salvaged {
     pub code: u8,
     pub records: usize,
@@ -23,8 +24,8 @@ pub struct Torn {
     pub headed: bool,
 }
 
-// What a piece came to: 0 or 16, the salvage behind it, how many bytes are decided, how many of them are kept, and how
-// many numbers are listed, two for each stretch that ended.
+// What a piece came to: code 0, or 16 where the buffers have no room for it; the salvage behind it, how many bytes are
+// decided, how many of them are kept, and how many numbers are listed, two for each stretch that ended.
 pub struct Fed {
     pub code: u8,
     pub torn: Torn,
