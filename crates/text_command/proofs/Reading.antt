@@ -3,20 +3,20 @@ use Prim.Native.Nat.{ℕ, zero, suc, _+_, _-_, _≤_, _<_}
 use native.Mathlib.Omega.{arith}
 use native.Mathlib.Numerals.{add-one}
 use mathlib.Core.Bool.{Bool, true, false, cond, not, _&&_}
-use mathlib.Core.Path.{_≡_, refl}
+use mathlib.Core.Path.{_≡_, refl, sym}
 use mathlib.Core.List.{List, [], _∷_}
-use borrow.Author.Tests.{le-leb}
+use borrow.Author.Tests.{le-leb, ne-eqb}
 use lib.Dec.{eqb, leb}
-use lib.ListN.{length, take, drop, length-drop, drop-of-length-le}
-use lib.Seq.{drop-drop}
+use lib.ListN.{length, take, drop, getD, length-drop, drop-of-length-le}
+use lib.Seq.{drop-cons, drop-drop}
 use Rattle.rules.specs.Line.{empty}
 use Rattle.text_word.specs.declared.Operand.{Operand}
 use Rattle.text.specs.Words.{before, word, behind, same}
 use Rattle.text.specs.Commands.{decimal-next, operand, operand-unless, omits-a, uses-a, uses-b, uses-value, named-from, op-named}
 use Rattle.text.specs.Commands.{spoken-by, command-of, no-command}
 use Rattle.text_word.specs.Places.{Reads}
-use Rattle.text_command.specs.Method.{words-in}
-use Rattle.text.proofs.Scan.{take-before, drop-before, word-part, behind-part}
+use Rattle.text_command.specs.Method.{word-at, words-in}
+use Rattle.text.proofs.Scan.{take-before, drop-before}
 use Rattle.text.proofs.Parts.{operand-bound, all-read}
 
 module _ (line : List ℕ) (at most : ℕ) where
@@ -51,24 +51,41 @@ unless-bound line r omits used most l h = rw (h .value) (operand-bound (not (omi
 
 -- ---- the word: a turn of the loop over a text of words, whose n-th begins at a place
 
-some-word : (k : ℕ) (l : List ℕ) → 1 ≤ length l → words-in (suc k) l ≡ word l ∷ words-in k (drop 1 (behind l))
+some-word : (k : ℕ) (l : List ℕ) → 1 ≤ length l → words-in (suc k) l ≡ word l ∷ words-in k (drop 8 l)
 unfolding words-in
 some-word k [] h = absurd (omega arith)
 some-word k (b ∷ l) h = refl
 
-module _ (words : List ℕ) (at end : ℕ) (h : at < length words) (e : end ≡ at + length (before 32 (drop at words))) where
-  word-at : (k : ℕ) → words-in (suc k) (drop at words) ≡ take (end - at) (drop at words) ∷ words-in k (drop (end + 1) words)
-  word-at k =
-      let l : 1 ≤ length (drop at words) = rw length-drop (omega arith) in
-      rw (some-word k (drop at words) l, word-part 32 words at end e, ← behind-part 32 words at end e, drop-drop 1 end words)
-
-  pub word-turn : (w : List ℕ) (n : ℕ) → n ≤ 255 → named-from n (words-in (256 - n) (drop at words)) w
-      ≡ cond (same w (take (end - at) (drop at words))) n (named-from (n + 1) (words-in (256 - (n + 1)) (drop (end + 1) words)) w)
+module _ (words w : List ℕ) (at : ℕ) (h : at < length words) where
+  pub word-turn : (n : ℕ) → n ≤ 255 → named-from n (words-in (256 - n) (drop at words)) w
+      ≡ cond (same w (word-at words at)) n (named-from (n + 1) (words-in (256 - (n + 1)) (drop (at + 8) words)) w)
   unfolding named-from
-  word-turn w n few =
+  word-turn n few =
       let s : 256 - n ≡ suc (255 - n) = omega arith in
       let t : 256 - (n + 1) ≡ 255 - n = omega arith in
-      rw (s, t, add-one, word-at (255 - n))
+      let l : 1 ≤ length (drop at words) = rw length-drop (omega arith) in
+      rw (s, t, add-one, some-word (255 - n) (drop at words) l, drop-drop 8 at words)
+
+-- another first byte is another word
+other-begin : (w : List ℕ) (b : ℕ) (l : List ℕ) → (b ≡ getD w 0 32 → ⊥) → false ≡ same w (word (b ∷ l))
+unfolding before same
+other-begin [] b l n = rw (ne-eqb b 32 n)
+other-begin (a ∷ w) b l n = go (eqb b 32)
+  where
+    go : (t : Bool) → false ≡ same (a ∷ w) (cond t [] (b ∷ before 32 l))
+    go true = refl
+    go false = rw (ne-eqb a b (λ e. n (sym e)))
+
+pub other-first : (words w : List ℕ) (at : ℕ) → at < length words → (getD words at 0 ≡ getD w 0 32 → ⊥) → false ≡ same w (word-at words at)
+other-first words w at h n = rw (drop-cons words at 0 h) (other-begin w (getD words at 0) (drop (suc at) words) n)
+
+pub first-none : (w : List ℕ) → length w ≡ 0 → 32 ≡ getD w 0 32
+first-none [] h = refl
+first-none (b ∷ w) h = absurd (omega arith)
+
+pub first-some : (w : List ℕ) → (length w ≡ 0 → ⊥) → getD w 0 0 ≡ getD w 0 32
+first-some [] h = absurd (h refl)
+first-some (b ∷ w) h = refl
 
 -- no word behind the end
 pub none-left : (words w : List ℕ) (n k at : ℕ) → length words ≤ at → named-from n (words-in k (drop at words)) w ≡ 0

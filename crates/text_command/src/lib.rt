@@ -1,10 +1,11 @@
 // Command lines: the command's word and its operands, single blanks, unsigned decimals.
 ghost use mathlib.Core.Path.{_≡_};
 ghost use Prim.Native.Nat.{_≤_, _<_};
-ghost use lib.ListN.{length, drop};
+ghost use lib.ListN.{length, drop, getD};
+ghost use Rattle.text.specs.Words.{same};
 ghost use Rattle.text.specs.Commands.{named-from, op-named, uses-a, uses-b, uses-value, omits-a, operand};
 ghost use Rattle.text.specs.Commands.{operand-unless, written, command-of, no-command};
-ghost use Rattle.text_command.specs.Method.{words-in};
+ghost use Rattle.text_command.specs.Method.{word-at, words-in};
 ghost use Rattle.text_word.specs.Places.{Reads};
 use text::Spoken;
 use text_word::Operand;
@@ -12,19 +13,41 @@ use text_word::find;
 use text_word::next_decimal;
 use text_word::same_bytes;
 
-// The number of a word among those of a text, a blank between two: 1 for the first, 0 for none.
+// The byte that a word begins with, a blank where it has none.
+fn first_of(word: &[u8]) -> u8
+    ensures { λ r. ⌜ r ≡ getD (now (word .entry)) 0 32 ⌝ }
+{
+    if word.len() == 0 {
+        return 32;
+    }
+    word[0]
+}
+
+// Whether a word of a text stands at a place. `first` is the byte that the word begins with: it nearly always tells.
+fn stands_at(word: &[u8], first: u8, words: &[u8], at: usize) -> bool
+    requires { ⌜ (first ≡ getD (now word) 0 32) × (at < length (now words)) ⌝ }
+    ensures { λ r. ⌜ r ≡ same (now (word .entry)) (word-at (now (words .entry)) at) ⌝ }
+{
+    if words[at] != first {
+        return false;
+    }
+    let end = find(words, at, 32);
+    same_bytes(word, &words[at..end])
+}
+
+// The number of a word among those of a text, eight bytes for each: 1 for the first, 0 for none.
 fn number_among(word: &[u8], words: &[u8]) -> u8
-    requires { ⌜ length (now words) < 255 ⌝ }
+    requires { ⌜ length (now words) ≤ 2032 ⌝ }
     ensures { λ r. ⌜ r ≡ named-from 1 (words-in 255 (now (words .entry))) (now (word .entry)) ⌝ }
 {
+    let first = first_of(word);
     let mut n = 1u8;
     let mut at: usize = 0;
     while at < words.len() {
-        let end = find(words, at, 32);
-        if same_bytes(word, &words[at..end]) {
+        if stands_at(word, first, words, at) {
             return n;
         }
-        at = end + 1;
+        at += 8;
         n += 1;
     }
     0
@@ -36,7 +59,7 @@ fn op_of(word: &[u8]) -> u8
 {
     number_among(
         word,
-        b"create object start delay wake advance open closep closef entry done",
+        b"create  object  start   delay   wake    advance open    closep  closef  entry   done    ",
     )
 }
 
