@@ -7,16 +7,13 @@
 The tapes are those below, made by hand with their verdicts, and some of second/bin/make_tape, by their numbers; what is printed for them is what
 second/bin/judge2 prints. second/build makes these two. The tapes together must reach all that `wanted` names, else nothing is written.
 """
-import pathlib
 import re
 import struct
-import subprocess
 import sys
 
-ROOT = pathlib.Path(__file__).resolve().parent.parent
-SECOND = ROOT / 'second' / 'bin'
+from stored_cases import DOCUMENT, HEADER, ROOT, WALK, changed, header, record, run, serve, walk
+
 CRATE = ROOT / 'crates' / 'judge_cases'
-MARK = b'RV'
 
 # Numbers of make_tape. The first were chosen so that every refusal of every op that some tape shows is among them; the others for variety.
 MADE = (327, 470, 1303, 1849, 658, 1909, 379, 319, 1658, 614, 446, 1496, 305, 3, 7, 22, 33, 45, 53, 61, 63)
@@ -27,35 +24,6 @@ LONGER, SPOILT = (49, 8600), 8501
 
 
 # ---- Tapes made by hand
-
-def record(op, a, b, value, code, running, released):
-    return MARK + struct.pack('<6BQ', op, a, b, code, running, released, value)
-
-
-def header(seed, edition=1):
-    return MARK + struct.pack('<6BQ', 0, edition, 0, 0, 0, 0, seed)
-
-
-def changed(tape, *changes):
-    """The tape with other bytes at these places."""
-    tape = bytearray(tape)
-    for place, byte in changes:
-        tape[place] = byte
-    return bytes(tape)
-
-
-HEADER = header(1)
-# Document 01's walk, with the answers that the paper prints: op, a, b, value, code, running, released.
-WALK = [record(*fields) for fields in (
-    (1, 1, 3, 0, 0, 0, 0), (1, 2, 5, 0, 0, 0, 0), (1, 3, 3, 0, 0, 0, 0), (2, 1, 4, 0, 0, 0, 0), (3, 0, 0, 0, 0, 2, 0), (4, 0, 0, 10, 0, 1, 0),
-    (7, 1, 0, 0, 0, 1, 0), (6, 0, 0, 10, 0, 1, 0), (5, 0, 0, 0, 0, 2, 2), (7, 1, 0, 0, 10, 2, 0), (4, 0, 0, 20, 0, 1, 0), (8, 1, 1, 0, 0, 1, 0),
-    (10, 1, 0, 0, 0, 3, 0), (10, 1, 0, 0, 12, 3, 0), (7, 1, 0, 0, 0, 3, 0), (8, 1, 1, 0, 0, 3, 1))]
-DOCUMENT = HEADER + b''.join(WALK)
-
-
-def walk(first, last):
-    return b''.join(WALK[first - 1:last])
-
 
 def agrees(count, seed=1):
     return f'seed {seed}\nagrees: {count} command records\n'
@@ -202,13 +170,6 @@ def wanted():
 
 # ---- The files
 
-def run(program, *args, given=b''):
-    path = SECOND / program
-    if not path.exists():
-        sys.exit(f'judge_cases: {path.relative_to(ROOT)} is not there; run second/build first')
-    return subprocess.run([path, *args], input=given, stdout=subprocess.PIPE, check=True).stdout
-
-
 def test_by_hand():
     """The second program too must say of each what stands here."""
     for tape, verdict in by_hand():
@@ -245,22 +206,4 @@ def made():
     return files
 
 
-def main():
-    if sys.argv[1:] not in ([], ['--check']):
-        sys.exit(__doc__)
-    files = made()
-    said = f'judge_cases: {len(files) - 1} tapes, {sum(map(len, files.values()))} bytes in all'
-    if '--check' in sys.argv[1:]:
-        stored = set((CRATE / 'data').iterdir()) | {CRATE / 'stdout'}
-        wrong = [str(p.relative_to(ROOT)) for p in sorted(stored | set(files)) if p not in files or p not in stored or p.read_bytes() != files[p]]
-        if wrong:
-            sys.exit('judge_cases: not as the second program makes it: ' + ' '.join(wrong))
-        print(said + ', as stored')
-        return
-    (CRATE / 'data').mkdir(parents=True, exist_ok=True)
-    for path, data in files.items():
-        path.write_bytes(data)
-    print(said)
-
-
-main()
+serve(__doc__, CRATE, made, 'tapes')

@@ -7,12 +7,10 @@
 The inputs are the odd ones below and some of second/bin/make_input, by their numbers; what is printed for them is what second/bin/walk2 and draw2
 print. second/build makes these three. The cases together must reach all that `reached` names, else nothing is written.
 """
-import pathlib
-import subprocess
 import sys
 
-ROOT = pathlib.Path(__file__).resolve().parent.parent
-SECOND = ROOT / 'second' / 'bin'
+from stored_cases import ROOT, run, serve
+
 CRATE = ROOT / 'crates' / 'session_cases'
 CLOCK = 2**64 - 1
 # The most that walk or draw may come to read at a time: an input of three pieces and more is longer than three of these.
@@ -177,13 +175,6 @@ def wanted():
 
 # ---- The files
 
-def run(program, *args, given=b''):
-    path = SECOND / program
-    if not path.exists():
-        sys.exit(f'session_cases: {path.relative_to(ROOT)} is not there; run second/build first')
-    return subprocess.run([path, *args], input=given, stdout=subprocess.PIPE, check=True).stdout
-
-
 def test_first_lines():
     """The second program too must give each the number by which it stands here."""
     for number, lines in first_lines().items():
@@ -213,22 +204,4 @@ def made():
     return files
 
 
-def main():
-    if sys.argv[1:] not in ([], ['--check']):
-        sys.exit(__doc__)
-    files = made()
-    said = f'session_cases: {len(files) - 1} inputs, {sum(map(len, files.values()))} bytes in all'
-    if '--check' in sys.argv[1:]:
-        stored = set((CRATE / 'data').iterdir()) | {CRATE / 'stdout'}
-        wrong = [str(p.relative_to(ROOT)) for p in sorted(stored | set(files)) if p not in files or p not in stored or p.read_bytes() != files[p]]
-        if wrong:
-            sys.exit('session_cases: not as the second program makes it: ' + ' '.join(wrong))
-        print(said + ', as stored')
-        return
-    (CRATE / 'data').mkdir(exist_ok=True)
-    for path, data in files.items():
-        path.write_bytes(data)
-    print(said)
-
-
-main()
+serve(__doc__, CRATE, made, 'inputs')

@@ -1,16 +1,12 @@
-with Ada.Containers.Vectors;
+with Ada.Containers;
 with Byte_IO;
 with Fresh_Numbers; use Fresh_Numbers;
-with Machine;       use Machine;
 with Steering;      use Steering;
-with Tapes;         use Tapes;
 
 package body Tape_Inputs is
 
    --  As in Steering, no expression below draws twice: the order would be
    --  open.
-
-   package Octet_Vectors is new Ada.Containers.Vectors (Natural, Octet);
 
    Tape   : Octet_Vectors.Vector;
    Kernel : State;  --  after the commands so far, by the rules
@@ -328,24 +324,28 @@ package body Tape_Inputs is
      (if Chance (50) then Low
       else Octet (Between (Natural (Low), 255)));
 
-   --  Record Number is none any more.
-   procedure Damage (Number : Positive) is
-      Bytes  : Record_Bytes := Bytes_At (Number);
+   function Damaged (Bytes, First : Record_Bytes) return Record_Bytes is
+      Result : Record_Bytes := Bytes;
       Change : constant Octet := Octet (Between (1, 255));
    begin
       case Below (12) is
-         when 0      => Bytes (0) := Bytes (0) xor Change;
-         when 1      => Bytes (1) := Bytes (1) xor Change;
-         when 2      => Bytes (2) := 0;
-         when 3 | 4  => Bytes (2) := At_Least (12);
-         when 5      => Bytes (2) := 255;
-         when 6 | 7  => Bytes (5) := At_Least (14);
-         when 8      => Bytes (6) := At_Least (32);
-         when 9      => Bytes (7) := At_Least (32);
-         when 10     => Bytes := Bytes_At (0);
-         when others => Bytes := (others => 0);
+         when 0      => Result (0) := Bytes (0) xor Change;
+         when 1      => Result (1) := Bytes (1) xor Change;
+         when 2      => Result (2) := 0;
+         when 3 | 4  => Result (2) := At_Least (12);
+         when 5      => Result (2) := 255;
+         when 6 | 7  => Result (5) := At_Least (14);
+         when 8      => Result (6) := At_Least (32);
+         when 9      => Result (7) := At_Least (32);
+         when 10     => Result := First;
+         when others => Result := (others => 0);
       end case;
-      Put_At (Number, Bytes);
+      return Result;
+   end Damaged;
+
+   procedure Damage (Number : Positive) is
+   begin
+      Put_At (Number, Damaged (Bytes_At (Number), Bytes_At (0)));
    end Damage;
 
    --  Value is no seed.
@@ -538,15 +538,23 @@ package body Tape_Inputs is
       Change_As (What);
    end Make_As;
 
-   procedure Make (What : Kind; Length : Natural) is
+   function Made
+     (What : Kind; Length : Natural) return Octet_Vectors.Vector is
    begin
+      Tape.Clear;
+      Kernel := (others => <>);
       if What = Editions then
          Make_As (Some_Kind, Length);
          Change_As (if Chance (70) then Newer else Unknown);
       else
          Make_As (What, Length);
       end if;
-      for Byte of Tape loop
+      return Tape;
+   end Made;
+
+   procedure Make (What : Kind; Length : Natural) is
+   begin
+      for Byte of Made (What, Length) loop
          Byte_IO.Put ((1 => Character'Val (Byte)));
       end loop;
    end Make;

@@ -1,6 +1,10 @@
 --  Whole tapes for the judge: right ones, ones with a wrong answer, damaged
 --  ones, and both at once in either order.
 
+with Machine;       use Machine;
+with Octet_Vectors;
+with Tapes;         use Tapes;
+
 package Tape_Inputs is
 
    type Kind is
@@ -33,8 +37,21 @@ package Tape_Inputs is
    --  How many command records: mostly few, at times thousands.
    function Some_Length return Natural;
 
-   --  Writes a tape.  Length is the count of command records before what the
-   --  kind does to it; kinds that need a record or two have them.
+   --  A tape.  Length is the count of command records before what the kind
+   --  does to it; kinds that need a record or two have them.
+   function Made
+     (What : Kind; Length : Natural) return Octet_Vectors.Vector;
+
+   --  Writes one.
    procedure Make (What : Kind; Length : Natural);
+
+   --  Parts of tapes that Torn_Inputs takes too: a record that is none any
+   --  more, the tape's header at times; a seed; a value that is none; an
+   --  edition that nobody has.
+   function Damaged (Bytes, First : Record_Bytes) return Record_Bytes;
+   function Some_Seed return Ticks;
+   function Some_Bad_Seed return Ticks;
+   function Some_Other_Edition return Octet;
+   function Some_Octet return Octet;
 
 end Tape_Inputs;
