@@ -1,9 +1,12 @@
 /*
- * A library that is loaded before the C library (LD_PRELOAD) and makes the reads of descriptor 0 and the writes of descriptor 1 fail, in the program
- * whose name FAIL_IN is; all other programs and descriptors are left alone. host/io.py says what it is to do by the environment:
+ * A library that is loaded before the C library (LD_PRELOAD) and makes calls fail in the program whose name FAIL_IN is: reads of descriptor 0, writes of
+ * descriptor 1, reads and writes of files that it opens (descriptors above 2), and what it does to files. All other programs are left alone, and standard
+ * error too. host/io.py says what it is to do by the environment:
  *
- *   FAIL_READ, FAIL_WRITE   "BYTES ERROR TIMES": once so many bytes were moved, so many calls fail with this errno, and then all goes on.
- *                           A call that would move more bytes than that is cut short before.
+ *   FAIL_READ, FAIL_WRITE   "BYTES ERROR TIMES": once so many bytes were read, or written to standard output, so many calls fail with this errno, and
+ *   FAIL_FILE               then all goes on. A call that would move more bytes than that is cut short before. FAIL_FILE: writes to an opened file.
+ *   FAIL_SYNC, FAIL_CLOSE,  "BEFORE ERROR TIMES": behind so many of these calls, so many fail with this errno. A close that fails closes all the same,
+ *   FAIL_OPEN, FAIL_RENAME  an open that fails opens nothing.
  *   FAIL_MOST               no call moves more than so many bytes
  *   FAIL_TURNS              if it is there, every second call, from the first on, fails with EINTR
  *   FAIL_LOG                a file that gets a line for each call: "read" or "write", and the bytes moved, or "error" and errno
@@ -11,6 +14,7 @@
 #define _GNU_SOURCE
 #include <errno.h>
 #include <fcntl.h>
+#include <stdarg.h>
 #include <stdio.h>
 #include <stdlib.h>
 #include <string.h>
@@ -24,6 +28,11 @@ struct side {
 };
 static struct side input = {.name = "read", .fault = "FAIL_READ", .call = SYS_read};
 static struct side output = {.name = "write", .fault = "FAIL_WRITE", .call = SYS_write};
+static struct side file = {.name = "file", .fault = "FAIL_FILE", .call = SYS_write};
+static struct side syncs = {.name = "sync", .fault = "FAIL_SYNC"};
+static struct side closes = {.name = "close", .fault = "FAIL_CLOSE"};
+static struct side opens = {.name = "open", .fault = "FAIL_OPEN"};
+static struct side renames = {.name = "rename", .fault = "FAIL_RENAME"};
 
 /* The word of this number in a variable, as a number; 0 where it is not there. */
 static unsigned long number(const char *variable, int word)
@@ -87,10 +96,51 @@ static int is_ours(void)
 
 ssize_t read(int fd, void *to, size_t count)
 {
-    return fd == 0 && is_ours() ? call(&input, fd, to, count) : syscall(SYS_read, fd, to, count);
+    return (fd == 0 || fd > 2) && is_ours() ? call(&input, fd, to, count) : syscall(SYS_read, fd, to, count);
 }
 
 ssize_t write(int fd, const void *from, size_t count)
 {
-    return fd == 1 && is_ours() ? call(&output, fd, from, count) : syscall(SYS_write, fd, from, count);
+    return fd != 2 && is_ours() ? call(fd == 1 ? &output : &file, fd, from, count) : syscall(SYS_write, fd, from, count);
+}
+
+/* Whether a call that moves no bytes is to fail. */
+static int fails(struct side *side)
+{
+    if (!is_ours())
+        return 0;
+    if (side->calls++ < number(side->fault, 0) || side->failed >= number(side->fault, 2)) {
+        tell(side, "", 0);
+        return 0;
+    }
+    side->failed++;
+    return failed(side, (int)number(side->fault, 1));
+}
+
+int fsync(int fd)
+{
+    return fails(&syncs) ? -1 : (int)syscall(SYS_fsync, fd);
+}
+
+int close(int fd)
+{
+    int broken = fails(&closes), error = errno, closed = (int)syscall(SYS_close, fd);
+    if (broken)
+        errno = error;
+    return broken ? -1 : closed;
+}
+
+int open(const char *path, int flags, ...)
+{
+    va_list more;
+    unsigned int mode;
+    va_start(more, flags);
+    mode = flags & O_CREAT ? va_arg(more, unsigned int) : 0;
+    va_end(more);
+    return fails(&opens) ? -1 : (int)syscall(SYS_openat, AT_FDCWD, path, flags, mode);
+}
+
+int rename(const char *from, const char *to)
+{
+    return fails(&renames) ? -1 : (int)syscall(SYS_rename, from, to);
 }

@@ -1,5 +1,5 @@
 #!/usr/bin/env python3
-"""Makes reads and writes of walk, draw and judge fail, and holds what they print, say and answer to docs/PROGRAMS.md.
+"""Makes reads and writes of walk, draw, judge and salvage fail, and holds what they print, say and answer to docs/PROGRAMS.md and docs/SALVAGE.md.
 
     python3 host/io.py      builds the programs by ./run where they are not built, runs the cases, and prints one line
 
@@ -297,6 +297,156 @@ def stack():
         # the environment stands on the stack too
         small = run(given=given, command=str(ROOT / 'target' / 'run' / program), env={}, preexec_fn=lambda: resource.setrlimit(resource.RLIMIT_STACK, (STACK, STACK)))
         hold(f'{program} with a stack of {STACK} bytes', small, whole.out, 0)
+    if not ARM:
+        hold(f'salvage with a stack of {STACK} bytes', salvage(command=str(ROOT / 'target' / 'run' / 'salvage'), env={},
+                                                               preexec_fn=lambda: resource.setrlimit(resource.RLIMIT_STACK, (STACK, STACK))), TOLD, 0)
+
+
+# ---- Salvage
+
+PLACE = work / 'salvage'
+SOUND = (TAPES / '000.tape').read_bytes()
+# A tape with 17 bytes put in behind its third record, a byte before its seventh, and 3 behind the last: no record begins in any of them.
+TORN = SOUND[:48] + bytes(17) + SOUND[48:96] + b'R' + SOUND[96:] + b'end'
+LIST = b'dropped: first byte 48, length 17\ndropped: first byte 113, length 1\ndropped: first byte %d, length 3\n' % (len(TORN) - 3)
+TOLD = LIST + b'kept: records %d, dropped bytes 21, header yes\n' % (len(SOUND) // 16)
+
+
+def salvage(*words, old=TORN, beside=(), how=None, **more):
+    """One run in a folder of its own, in which `old` stands and what is named in `beside`."""
+    shutil.rmtree(PLACE, ignore_errors=True)
+    PLACE.mkdir()
+    if old is not None:
+        (PLACE / 'old').write_bytes(old)
+    for name in beside:
+        (PLACE / name).write_bytes(b'here before')
+    return run(*(() if 'command' in more else ('salvage',)), *(words or ('old', 'new')), cwd=PLACE, environment=None if how is None else faults('salvage', **how), **more)
+
+
+def left(title, **files):
+    """What stands in that folder: these files, with these contents, and no other."""
+    there = {path.name: path.read_bytes() for path in PLACE.iterdir()}
+    if there != {name.replace('_', '.'): content for name, content in files.items()}:
+        stop(f'{title}: the files are {[(name, len(content)) for name, content in sorted(there.items())]}, wanted {sorted(files)}')
+
+
+def salvages():
+    for title, old, out, new in (('a torn tape', TORN, TOLD, SOUND), ('a sound tape', SOUND, TOLD[len(LIST):].replace(b' 21', b' 0'), SOUND),
+                                 ('an empty tape', b'', b'kept: records 0, dropped bytes 0, header no\n', b''),
+                                 ('no header', SOUND[16:], b'kept: records %d, dropped bytes 0, header no\n' % (len(SOUND) // 16 - 1), SOUND[16:]),
+                                 ('a cut header', SOUND[1:], b'dropped: first byte 0, length 15\nkept: records %d, dropped bytes 15, header no\n' % (len(SOUND) // 16 - 1), SOUND[16:])):
+        for how in (None, {'most': 1}, {'most': 7, 'turns': 1}, {'turns': 1}):
+            hold(f'salvage: {title}, {how}', salvage(old=old, how=how), out, 0)
+            left(f'salvage: {title}, {how}', old=old, new=new)
+    # more than one piece, and stretches over the seams
+    old = SOUND + (b'x' * 5 + SOUND[16:32]) * 3000
+    stretches = b''.join(b'dropped: first byte %d, length 5\n' % (len(SOUND) + 21 * i) for i in range(3000))
+    hold('salvage: many pieces', salvage(old=old), stretches + b'kept: records %d, dropped bytes 15000, header yes\n' % (len(SOUND) // 16 + 3000), 0)
+    left('salvage: many pieces', old=old, new=SOUND + SOUND[16:32] * 3000)
+    # the folder cannot be opened or synced: the new tape is there all the same
+    for how in ({'open': f'3 {errno.EACCES} 1'}, {'sync': f'1 {errno.EINVAL} 1'}):
+        hold(f'salvage: {how}', salvage(how=how), TOLD, 0)
+        left(f'salvage: {how}', old=TORN, new=SOUND)
+
+
+def broken(title, said, status=3, out=None, old=TORN, **more):
+    """Nothing is left behind, and what is printed is a beginning of the list."""
+    ended = salvage(old=old, **more)
+    hold(f'salvage: {title}', ended, ended.out if out is None else out, status, said)
+    if not TOLD.startswith(ended.out):
+        stop(f'salvage: {title}: it printed {ended.out!r}')
+    left(f'salvage: {title}', **({} if old is None else {'old': old}))
+
+
+def failed_salvages():
+    for at in (0, 1, 15, 16, 60, 100, len(TORN) - 1, len(TORN)):
+        for error in (errno.EIO, errno.EAGAIN):
+            broken(f'reading fails behind {at} bytes', told('old could not be read: ', error), how={'read': f'{at} {error} 1'})
+    for at in (0, 5, len(LIST), len(TOLD) - 1):
+        broken(f'listing fails behind {at} bytes', told(OUTPUT, errno.ENOSPC), out=TOLD[:at], how={'write': f'{at} {errno.ENOSPC} 1'})
+    for at in (0, 16, 100, len(SOUND) - 1):
+        broken(f'writing fails behind {at} bytes', told('new.part could not be written: ', errno.ENOSPC), how={'file': f'{at} {errno.ENOSPC} 1', 'most': 50})
+    for what, said in (('sync', 'new.part could not be brought to its device: '), ('close', 'new.part could not be closed: '), ('rename', 'new.part could not be renamed: ')):
+        broken(f'{what} fails', told(said, errno.EIO), out=TOLD, how={what: f'0 {errno.EIO} 1'})
+    broken('the new name is taken meanwhile', told('new could not be made: ', errno.EEXIST), out=TOLD, how={'open': f'2 {errno.EEXIST} 1'})
+    broken('the old tape cannot be opened', told('old could not be opened: ', errno.EMFILE), 2, b'', how={'open': f'0 {errno.EMFILE} 1'})
+    broken('the new tape cannot be made', ('new.part could not be made', os.strerror(errno.EACCES)), 2, b'', how={'open': f'1 {errno.EACCES} 1'})
+    with open('/dev/full', 'wb') as full:
+        broken('>/dev/full', told(OUTPUT, errno.ENOSPC), out=b'', stdout=full)
+    gone, end = os.pipe()
+    os.close(gone)
+    broken('to nobody', told(OUTPUT, errno.EPIPE), out=b'', stdout=end)
+    os.close(end)
+    broken('a file that grows too large', told('new.part could not be written: ', errno.EFBIG),
+           preexec_fn=lambda: resource.setrlimit(resource.RLIMIT_FSIZE, (100, 100)))
+
+
+def refused_salvages():
+    def refuse(title, words, said, old=TORN, beside=()):
+        ended = salvage(*words, old=old, beside=beside)
+        hold(f'salvage: {title}', ended, b'', 2, said)
+        left(f'salvage: {title}', **({} if old is None else {'old': old}), **{name.replace('.', '_'): b'here before' for name in beside})
+    refuse('no words', ('old',), ('run: ', 'a word is missing'))
+    refuse('a word too many', ('old', 'new', 'more'), ('run: ', "'more' is a word too many"))
+    refuse('no old tape', ('old', 'new'), ('run: ', "there is no file 'old'"), old=None)
+    refuse('a folder', ('..', 'new'), ('run: ', "'..' is a folder"))
+    refuse('an empty name', ('old', ''), ('run: ', "''"))
+    refuse('the new file is there', ('old', 'new'), ('run: ', "'new' is there already"), beside=['new'])
+    refuse('the part is there', ('old', 'new'), ('run: ', "'new.part' is there already", 'remove it'), beside=['new.part'])
+    refuse('old and new are one', ('old', 'old'), ('run: ', "'old' is there already"))
+    refuse('no folder for the new tape', ('old', 'none/new'), ('none/new.part could not be made', os.strerror(errno.ENOENT)))
+    shutil.rmtree(PLACE)
+    PLACE.mkdir()
+    (PLACE / 'old').write_bytes(TORN)
+    (PLACE / 'new').symlink_to('nowhere')
+    hold('salvage: a link to nowhere', run('salvage', 'old', 'new', cwd=PLACE), b'', 2, ('run: ', "'new' is there already"))
+
+
+def closed_salvages():
+    """The list has no place then, or what is said has none: the new tape is whole and named, or nothing is there."""
+    for closed in ([0], [2], [1], [0, 1], [1, 2], [0, 2], [0, 1, 2]):
+        ended = salvage(closed=closed)
+        title = f'salvage without descriptors {closed}'
+        done = ended.status == 0 and 1 not in closed
+        hold(title, ended, TOLD if done else b'', 0 if done else 3, ended.said)
+        left(title, **({'old': TORN, 'new': SOUND} if done else {'old': TORN}))
+
+
+def killed_salvage():
+    """A salvage that is ended from outside leaves no new tape under its name."""
+    global count
+    count += 1
+    shutil.rmtree(PLACE)
+    PLACE.mkdir()
+    os.mkfifo(PLACE / 'old')
+    going = subprocess.Popen([RUN, 'salvage', 'old', 'new'], cwd=PLACE, stdout=subprocess.DEVNULL)
+    with open(PLACE / 'old', 'wb', buffering=0) as pipe:
+        pipe.write(SOUND)
+        signal.signal(signal.SIGALRM, lambda *_: stop('salvage over a pipe writes nothing'))
+        signal.alarm(LIMIT)
+        while not (PLACE / 'new.part').exists() or not (PLACE / 'new.part').stat().st_size:
+            pass
+        signal.alarm(0)
+        going.kill()
+        going.wait()
+    if (PLACE / 'new').exists():
+        stop('salvage that was killed: there is a new tape')
+
+
+def progress():
+    """A line for every 100,000,000 bytes, on a terminal alone."""
+    for terminal in (True, False):
+        shutil.rmtree(PLACE)
+        PLACE.mkdir()
+        with open(PLACE / 'old', 'wb') as old:
+            old.truncate(100000100)
+        seen, end = os.openpty()
+        ended = run('salvage', 'old', 'new', cwd=PLACE, **({'stderr': end} if terminal else {}))
+        os.close(end)
+        hold('salvage: much to read', ended, b'dropped: first byte 0, length 100000100\nkept: records 0, dropped bytes 100000100, header no\n', 0)
+        if terminal and os.read(seen, 1000) != b'100000000 bytes read\r\n':
+            stop('salvage: the progress on a terminal')
+        os.close(seen)
 
 
 # ---- The launcher
@@ -367,10 +517,10 @@ def main():
     if not run('walk', environment=faults('walk')).calls:
         stop('host/fail.c is not loaded: its log stays empty')
     for part in (refusals, toolchain, walk_reads, draw_reads, judge_reads, interrupted, failed_writes, descriptors, goes_away, streams, endless_first_line, longest_first_line,
-                 hints, stack):
+                 hints, salvages, failed_salvages, refused_salvages, closed_salvages, killed_salvage, progress, stack):
         part()
     shutil.rmtree(work)
-    print(f'io: {count} runs of walk, draw and judge, whose reads and writes fail or do not: output, message and status as told')
+    print(f'io: {count} runs of walk, draw, judge and salvage, whose reads and writes fail or do not: output, message and status as told')
 
 
 main()
