@@ -77,6 +77,6 @@ All-taken went =
 abbrev pub Salvaged : Went → Type 0
 Salvaged went = All-taken went ⊎ (2 ≤ went .kind) ⊎ (went .kind ≡ 0)
 
--- Salvage answers 0, 2 or 3.
+-- Salvage answers 0 only where all was read and all was taken; else 2, nothing was begun, or 3.
 abbrev pub Done-refused-failed : ℕ → Type 0
-Done-refused-failed r = (r ≡ 0) ⊎ (r ≡ 2) ⊎ (r ≡ 3)
+Done-refused-failed r = ((r ≡ 0) × ((w : Went) × All-taken w)) ⊎ (r ≡ 2) ⊎ (r ≡ 3)

@@ -3,8 +3,8 @@
 //
 // The new tape never stands half written under its name. It is written as NEW.part, which is made new. It gets the name
 // NEW in one place, `give_name`, which asks that all was read and all was taken; before that it is brought to its device
-// and closed. NEW is made first, so that a file of this name is never replaced. Where anything fails, what was made is
-// removed.
+// and closed. NEW is made first, so that a file of this name is never replaced: for that moment an empty file stands
+// there. Where anything fails, what was made is removed.
 mod pieces;
 
 ghost use mathlib.Core.Path.{_≡_};
@@ -64,8 +64,11 @@ fn give_name(w: Went, new: &[u8], part: &[u8]) -> Went
         part,
         b" could not be renamed",
     );
-    if !has_ended(named) {
-        os::unlink(new);
+    if has_ended(named) {
+        return named;
+    }
+    if os::unlink(new) != 0 {
+        told(3, new, b" is empty, and could not be removed");
     }
     named
 }
@@ -176,7 +179,7 @@ fn part_name(name: &mut [u8]) -> usize
 }
 
 // The names of both files are the first and the second word of the command line. It answers its status: 0, or 2 where a
-// word is wrong or a file cannot be opened or made, or 3 where a read or a write failed.
+// word is wrong, OLD cannot be opened or NEW.part cannot be made, or 3 where anything failed behind that.
 pub fn run() -> u8
     ensures { λ r. ⌜ Done-refused-failed r ⌝ }
 {

@@ -34,7 +34,11 @@ sync-folder-requires : tie.Need-sync-folder-requires
 sync-folder-requires c κs = search needs
 
 returns-3 : tie.Need-returns-3
-returns-3 c = inl refl
+returns-3 c =
+    let m = c .before .before .before .before in
+    let e = m .before .has-ended in
+    let s = m .before .before .before .before in
+    inl (refl, (s .args .w, taken (e .result) (s .args .w) (e .ensures) (not-false (e .result) (m .if1 .left)) (s .pre)))
 
 pub finish-spec : {M : Type 1} → statement M
 finish-spec =
