@@ -9,7 +9,7 @@ use Rattle.decimal.specs.Decimal.{decimal, decimal-in}
 use Rattle.text.specs.Words.{bytes}
 use Rattle.salvage_text.specs.Lines.{stretch-text, list-text, yes-no, last-text, stretch-room, last-room}
 
-two-stretches : list-text (48 ∷ (17 ∷ (4096 ∷ (1 ∷ [])))) ≡ bytes "dropped: first byte 48, length 17\ndropped: first byte 4096, length 1\n"
+two-stretches : list-text (48 ∷ (17 ∷ (4097 ∷ (1 ∷ [])))) ≡ bytes "dropped: first byte 48, length 17\ndropped: first byte 4097, length 1\n"
 unfolding list-text stretch-text decimal decimal-in
 two-stretches = refl
 
