@@ -1,7 +1,5 @@
 // What bench/salvage times beside C: a whole tape salvaged, and a piece. The library exports nothing to C for it.
 ghost use mathlib.Core.Path.{_≡_};
-ghost use lib.ListN.{length};
-ghost use Rattle.salvage_marks.specs.Torn.{salvagedOf, SalvagedTo};
 ghost use Rattle.salvage_bench.specs.Told.{toldOf, Whole, Piece};
 use salvaging::Fed;
 use salvaging::Torn;

@@ -3,18 +3,17 @@
 use Prim.Native.Nat.{ℕ, zero, suc, _+_, _-_, _*_, _≤_, _<_}
 use native.Mathlib.Omega.{arith}
 use mathlib.Core.Path.{_≡_, refl, sym, ap, _∙_}
-use mathlib.Core.Bool.{Bool, true, false, cond, _&&_, _||_, true≢false}
-use mathlib.Core.List.{List, [], _∷_, _++_, append-assoc, append-nil}
+use mathlib.Core.Bool.{Bool, true, false, cond, _&&_, _||_}
+use mathlib.Core.List.{List, [], _++_, append-assoc, append-nil}
 use borrow.Author.Tests.{leb-true, leb-false, le-leb, lt-leb, ne-eqb, le-ltb, ltb-false}
 use lib.Dec.{leb, ltb, eqb}
 use lib.ListN.{length, take, drop, length-append, length-drop}
 use lib.Seq.{sets, sets-eq, take-at, take-append-le}
-use Rattle.record.specs.Form.{isHeader}
 use Rattle.salvage_marks.specs.declared.Stretch.{Stretch}
 use Rattle.salvage_marks.specs.declared.Torn.{Torn}
 use Rattle.salvage_marks.specs.declared.Fed.{Fed}
-use Rattle.salvage_marks.specs.Torn.{makes, marks, pick, closed, stretches, kept-on, dropped-on, kept, dropped, headed, cells}
-use Rattle.salvage_marks.specs.Pieces.{ahead, ended, begun, at-first, lastPlace, least, opened, decided, written, listed, after, held}
+use Rattle.salvage_marks.specs.Torn.{marks, pick, closed, stretches, kept-on, dropped-on, kept, dropped, headed, cells}
+use Rattle.salvage_marks.specs.Pieces.{ended, begun, at-first, lastPlace, least, opened, decided, written, listed, after, held}
 use Rattle.salvage_marks.specs.Pieces.{fedFits, fedOf, FedTo, lastOf, Chain, joined}
 use Rattle.salvage_marks.specs.Pieces.Chain.{end, feed}
 use Rattle.salvage_marks.proofs.Marks.{both-true, cells-join}

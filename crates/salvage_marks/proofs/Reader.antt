@@ -17,9 +17,9 @@ use Rattle.record.proofs.Faults.{own-fault, unfaulted}
 use Rattle.tape.specs.Run.{tapeOf, Takes, answers, foundAll}
 use Rattle.tape.proofs.Writing.{accepted, accepts}
 use Rattle.tape.proofs.Runs.{run-there, run-answers}
-use Rattle.salvage_marks.specs.Torn.{is-record, makes, marks, pick, kept-on, kept, dropped, found-on, found, headed}
+use Rattle.salvage_marks.specs.Torn.{is-record, makes, marks, pick, kept-on, kept, found-on, found, headed}
 use Rattle.salvage_marks.proofs.Marks.{both-true, and-false, makes-long, makes-record, kept-keep, kept-drop}
-use Rattle.salvage_marks.proofs.Whole.{Whole, whole-joined, whole-same}
+use Rattle.salvage_marks.proofs.Whole.{Whole, whole-joined}
 
 -- every element is a byte
 abbrev pub Bytes : List ℕ → Type 0

@@ -7,7 +7,6 @@ use mathlib.Core.List.{List, [], _∷_, _++_}
 use Rattle.record.specs.Form.{recordOf}
 use Rattle.salvage_marks.specs.declared.Salvaged.{Salvaged}
 use Rattle.salvage_marks.specs.declared.Torn.{Torn}
-use Rattle.salvage_marks.specs.declared.Stretch.{Stretch}
 use Rattle.salvage_marks.specs.Pieces.{ahead, ended, begun, written, listed, after, lastOf}
 use Rattle.salvage_marks.specs.Torn.{makes, marks, pick, closed, stretches, kept, dropped, found-on, found, headed, cells, fits, salvagedOf}
 
