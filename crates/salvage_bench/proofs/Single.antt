@@ -1,5 +1,5 @@
--- No second answer of what is timed: of any tape, piece and buffers, only one answer meets the contract as the check states it, and only one contents of each lent
--- buffer is left behind. (The law: crate one_answer, proofs/Law.) Assumes nothing.
+-- No second answer of what is timed: of any tape, piece and buffers, only one answer meets the contract as the check states it, and only one contents of each
+-- lent buffer is left behind. (The law: crate one_answer, proofs/Law.) Assumes nothing.
 use Prim.Native.Nat.{ℕ}
 use mathlib.Core.Path.{_≡_, sym, _∙_}
 use mathlib.Core.List.{List}

@@ -3,7 +3,7 @@
 use Prim.Native.Nat.{ℕ}
 use mathlib.Core.Path.{_≡_}
 use mathlib.Core.List.{List, [], _∷_}
-use mathlib.Core.Bool.{Bool, false, cond}
+use mathlib.Core.Bool.{false, cond}
 use lib.ListN.{length}
 use lib.Seq.{sets}
 use lib.Dec.{ltb}
@@ -23,14 +23,13 @@ Whole s out list c out′ list′ =
     × (out′ ≡ cond (fits s (length out) (length list)) (sets out 0 (kept s)) out)
     × (list′ ≡ cond (fits s (length out) (length list)) (sets list 0 (cells (dropped s))) list)
 
+-- a salvage that goes on at a place, where the open stretch begins at `from`
 abbrev pub start : ℕ → ℕ → Torn
 start place from = record { place = place; from = from; headed = false }
 
-abbrev pub Piece : ℕ → ℕ → List ℕ → List ℕ → List ℕ → List ℕ → ℕ → List ℕ → List ℕ → List ℕ → Type 0
-Piece place from buf out list told c out′ list′ told′ =
-    (c ≡ fedOf (start place from) buf (length out) (length list) .code)
-    × (out′ ≡ cond (fedFits (start place from) buf (length out) (length list)) (sets out 0 (written (start place from) buf)) out)
-    × (list′
-    ≡ cond (fedFits (start place from) buf (length out) (length list)) (sets list 0 (cells (listed (start place from) buf)))
-    list)
-    × (told′ ≡ toldOf (fedOf (start place from) buf (length out) (length list)) told)
+abbrev pub Piece : Torn → List ℕ → List ℕ → List ℕ → List ℕ → ℕ → List ℕ → List ℕ → List ℕ → Type 0
+Piece t buf out list told c out′ list′ told′ =
+    (c ≡ fedOf t buf (length out) (length list) .code)
+    × (out′ ≡ cond (fedFits t buf (length out) (length list)) (sets out 0 (written t buf)) out)
+    × (list′ ≡ cond (fedFits t buf (length out) (length list)) (sets list 0 (cells (listed t buf))) list)
+    × (told′ ≡ toldOf (fedOf t buf (length out) (length list)) told)

@@ -1,8 +1,6 @@
 // What bench/salvage times beside C: a whole tape salvaged, and a piece. The library exports nothing to C for it.
 ghost use mathlib.Core.Path.{_≡_};
-ghost use lib.ListN.{length};
-ghost use Rattle.salvage_marks.specs.Torn.{salvagedOf, SalvagedTo};
-ghost use Rattle.salvage_bench.specs.Told.{toldOf, Whole, Piece};
+ghost use Rattle.salvage_bench.specs.Told.{toldOf, Whole, start, Piece};
 use salvaging::Fed;
 use salvaging::Torn;
 
@@ -39,8 +37,8 @@ pub extern "C" fn salvage_bench_piece(
     list: &mut [u64],
     told: &mut [u64],
 ) -> u8
-    ensures { λ c. ⌜ Piece place from (now (buf .entry)) (now (out .entry)) (now (list .entry)) (now (told .entry)) c
-        (now (out .exit)) (now (list .exit)) (now (told .exit)) ⌝ }
+    ensures { λ c. ⌜ Piece (start place from) (now (buf .entry)) (now (out .entry)) (now (list .entry))
+        (now (told .entry)) c (now (out .exit)) (now (list .exit)) (now (told .exit)) ⌝ }
 {
     let t = Torn {
         place,

@@ -1,17 +1,17 @@
 -- Where a pass starts: behind a header that is kept at byte 0, or at the first byte, and then byte 0 is a place like any other. And a whole tape as one piece.
 -- Assumes nothing.
-use Prim.Native.Nat.{ℕ, zero, suc, _+_, _-_, _*_, _/_, _%_, _≤_, _<_}
+use Prim.Native.Nat.{ℕ, zero, _+_, _-_, _/_, _%_, _≤_, _<_}
 use native.Mathlib.Omega.{arith}
 use mathlib.Core.Path.{_≡_, refl, sym, ap, _∙_}
-use mathlib.Core.Bool.{Bool, true, false, cond, _&&_, true≢false}
+use mathlib.Core.Bool.{Bool, true, false, cond, _&&_}
 use mathlib.Core.List.{List, [], _∷_, _++_}
 use borrow.Author.Tests.{eqb-true, ne-eqb, le-leb, lt-leb}
 use lib.Dec.{eqb, leb}
-use lib.ListN.{length, take, drop, replicate, length-append, length-drop}
+use lib.ListN.{length, take, drop, replicate, length-append}
 use lib.Seq.{sets, length-take-le}
 use Rattle.record.specs.Form.{isHeader}
 use Rattle.salvage_marks.specs.declared.Stretch.{Stretch}
-use Rattle.salvage_marks.specs.Torn.{makes, pick, closed, headed, cells}
+use Rattle.salvage_marks.specs.Torn.{pick, headed, cells}
 use Rattle.salvage_marks.specs.Pieces.{ahead, ended, begun}
 use Rattle.salvage_marks.proofs.Marks.{both-true, and-false, makes-long, pick-trues, closed-none}
 use Rattle.salvage_marks.proofs.Ahead.{ahead-keep, ended-trues, begun-trues, pick-few, few-cells}

@@ -26,11 +26,11 @@ const LAST_PLACE: u64 = 18446744073709551615;
 
 // What a pass over bytes comes to: how many are decided, where the open stretch begins, the bytes kept and the numbers
 // listed.
-pub struct Passed {
-    pub done: usize,
-    pub from: usize,
-    pub kept: usize,
-    pub cells: usize,
+struct Passed {
+    done: usize,
+    from: usize,
+    kept: usize,
+    cells: usize,
 }
 
 // ---- One record, one stretch

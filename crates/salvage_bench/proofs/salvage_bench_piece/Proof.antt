@@ -1,7 +1,5 @@
 -- `salvage_bench_piece` meets its contract: it is a piece fed, and what its answer tells. Assumes nothing.
 use mathlib.Core.Path.{ap, _∙_}
-use mathlib.Core.List.{List}
-use Prim.Native.Nat.{ℕ}
 use Rattle.salvage_marks.specs.declared.Fed.{Fed}
 use Rattle.salvage_bench.specs.Told.{toldOf}
 use borrow.Author.Needs.{needs}

@@ -1,6 +1,5 @@
 -- `tell` meets its contract: four stores, or none. Assumes nothing.
 use native.Mathlib.Omega.{arith}
-use mathlib.Core.Path.{refl}
 use borrow.Author.Tests.{lt-ltb, le-ltb}
 use lib.ListN.{length, length-set}
 use borrow.Author.Needs.{needs}

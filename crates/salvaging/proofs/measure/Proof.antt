@@ -1,12 +1,12 @@
 -- `measure` meets its contract. The loop's invariant: what is counted and what is to come make what the pass comes to. Assumes nothing.
-use Prim.Native.Nat.{ℕ, _+_, _-_, _*_, _≤_, _<_, _^_}
+use Prim.Native.Nat.{_+_, _-_, _*_, _≤_, _<_, _^_}
 use mathlib.Core.Path.{_≡_, refl, sym, _∙_}
 use native.Mathlib.Omega.{arith}
 use lib.ListN.{length}
 use borrow.Author.Needs.{needs}
 use Rattle.salvaging.specs.Walk.{passed-on}
 use Rattle.salvaging.proofs.Turns.{cells-two, keep-passed, drop-passed, stop-passed}
-use Rattle.salvaging.proofs.Starts.{Starts, starts, start-passed}
+use Rattle.salvaging.proofs.Starts.{starts, start-passed}
 use Rattle.salvaging.proofs.measure.Statement.{statement}
 use Rattle.salvaging.proofs.measure.Tie as tie
 

@@ -1,6 +1,6 @@
 -- `pass` meets its contract. The loop's invariant: what is counted, written and listed, and what is to come, make what the pass comes to. That there is room
 -- for each record and stretch follows: it is part of what is to come. Assumes nothing.
-use Prim.Native.Nat.{ℕ, _+_, _-_, _≤_, _<_, _^_}
+use Prim.Native.Nat.{ℕ, _+_, _-_, _≤_}
 use mathlib.Core.Path.{_≡_, refl, sym, ap, _∙_}
 use mathlib.Core.List.{List, []}
 use native.Mathlib.Omega.{arith}
