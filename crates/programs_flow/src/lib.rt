@@ -189,9 +189,9 @@ fn write_once(fd: i32, out: &[u8]) -> Call
     moved_none(3)
 }
 
-// All of out, in as many writes as it takes, to a file that has this name where it is complained of: it is all taken, or
-// the write has failed. What the last read brought is kept. Where no number holds the total that is a failure, too; no
-// run gets there.
+// All of out, in as many writes as it takes, to a file that has this name where it is complained of: it is all taken,
+// or the write has failed. What the last read brought is kept. Where no number holds the total that is a failure, too;
+// no run gets there.
 pub fn write_to(w: Went, fd: i32, name: &[u8], out: &[u8]) -> Went
     ensures { λ r. ⌜ flow.Wrote (length (now (out .entry))) w r ⌝ }
 {

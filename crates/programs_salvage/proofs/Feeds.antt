@@ -2,8 +2,8 @@
 -- Assumes nothing.
 use Prim.Native.Nat.{ℕ, zero, suc, _+_, _-_, _≤_}
 use native.Mathlib.Omega.{arith}
-use mathlib.Core.Bool.{Bool, true, false, cond, _&&_}
-use mathlib.Core.Path.{_≡_, refl, ap, sym, subst, _∙_}
+use mathlib.Core.Bool.{Bool, true, false, cond}
+use mathlib.Core.Path.{_≡_, refl, ap, sym, _∙_}
 use mathlib.Core.List.{List, [], _∷_, _++_}
 use mathlib.Core.Logic.{_⊎_, inl, inr, ⊎-elim}
 use borrow.Author.Tests.{le-leb}
@@ -22,8 +22,8 @@ use Rattle.salvage_marks.proofs.Ahead.{ahead-few, rest-short}
 use Rattle.salvage_marks.proofs.Chained.{Fits, fed-fits}
 use Rattle.salvage_text.specs.Lines.{list-text}
 use Rattle.programs_salvage.specs.declared.Stand.{Stand}
-use Rattle.programs_salvage.specs.Work.{Between, then}
-use Rattle.programs_salvage.specs.Turns.{standing, Sane, Handed, Carried, Fed-both, Turned}
+use Rattle.programs_salvage.specs.Work.{Between}
+use Rattle.programs_salvage.specs.Turns.{standing, Sane, Handed, Carried, Turned}
 use Rattle.programs_salvage.proofs.Tapes.{moved-on}
 
 -- ---- what an answer with code 0 says
@@ -196,7 +196,9 @@ module _ (s : Stand) (buf buf′ buf″ out text : List ℕ) (was came went : We
   size = rw e (sym (c .0 .1))
 
   some : 1 ≤ n
-  some = ⊎-elim (λ (x : (came .kind ≡ 0) × (1 ≤ came .count)). omega (arith, x .1, e)) (λ (x : (came .count ≡ 0) × (1 ≤ came .kind)). absurd (omega (arith, x .1, on))) (c .0 .2)
+  some =
+      ⊎-elim (λ (x : (came .kind ≡ 0) × (1 ≤ came .count)). omega (arith, x .1, e))
+      (λ (x : (came .count ≡ 0) × (1 ≤ came .kind)). absurd (omega (arith, x .1, on))) (c .0 .2)
 
   answer : Well (s .torn) (start .held ++ piece) a b fed
   answer = rw bytes at (well (s .torn) (take all buf′) a b fed (h .0) z)
@@ -210,7 +212,7 @@ module _ (s : Stand) (buf buf′ buf″ out text : List ℕ) (was came went : We
     moved : (take left buf″ ≡ held (s .torn) (start .held ++ piece)) × (left ≡ length (held (s .torn) (start .held ++ piece)))
     moved = rw bytes at (moved-down (s .torn) buf′ buf″ all (fed .done) left fit (well (s .torn) (take all buf′) a b fed (h .0) z .done) m)
 
-    pub one-turn : Turned start (standing (record { torn = fed .torn; held = left; kept = s .kept + fed .kept }) buf″) was went out text
+    one-turn : Turned start (standing (record { torn = fed .torn; held = left; kept = s .kept + fed .kept }) buf″) was went out text
     one-turn =
         let o = rw bytes at (h .1 z) in
         inl (
@@ -229,7 +231,7 @@ module _ (s : Stand) (buf buf′ buf″ out text : List ℕ) (was came went : We
         since x (inl (i, j)) = inl (i ∙ on, j ∙ ap (λ (y : ℕ). y + x) (c .2))
         since x (inr i) = inr i
 
-    pub still-sane : Sane (record { torn = fed .torn; held = left; kept = s .kept + fed .kept })
+    still-sane : Sane (record { torn = fed .torn; held = left; kept = s .kept + fed .kept })
     still-sane =
         let q = moved-on start piece in
         let t = ap (λ (x : Torn). x .place) (answer .torn) in
@@ -238,3 +240,7 @@ module _ (s : Stand) (buf buf′ buf″ out text : List ℕ) (was came went : We
           omega (arith, moved .1, q, t, l, answer .fits .place),
           omega (arith, t, after-place (s .torn) (start .held ++ piece), answer .kept, kept-below (s .torn) (start .held ++ piece), sane .2),
         )
+
+    pub next-turn : Turned start (standing (record { torn = fed .torn; held = left; kept = s .kept + fed .kept }) buf″) was went out text
+        × Sane (record { torn = fed .torn; held = left; kept = s .kept + fed .kept })
+    next-turn = (one-turn, still-sane)

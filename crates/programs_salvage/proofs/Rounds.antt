@@ -12,7 +12,7 @@ use Rattle.programs_flow.specs.declared.Went.{Went}
 use Rattle.programs_flow.specs.Flow.{nothing-yet, Took}
 use Rattle.programs_flow.specs.Loops.{Fed, Looped, Concluded, Over, behind, texts}
 use Rattle.programs_flow.proofs.Turns.{Running, one-turn, in-all}
-use Rattle.salvage_marks.specs.Pieces.{lastPlace, joined}
+use Rattle.salvage_marks.specs.Pieces.{lastPlace}
 use Rattle.programs_salvage.specs.declared.Stand.{Stand}
 use Rattle.programs_salvage.specs.Work.{Between, before-all, kept-of, lines-of, both-of, then, end-of, Salvaged}
 use Rattle.programs_salvage.specs.Turns.{standing, Sane, Turned}
@@ -27,7 +27,8 @@ pub ran-on : (t u : Between) (went now : Went) (turns : ℕ) (out text : List �
     → Turned t u went now out text → Running then both-of before-all u nothing-yet now (turns + 1)
 ran-on t u went now turns out text r on (inr unfed) = one-turn then both-of before-all t u nothing-yet went now turns r on [] [] (inr unfed)
 ran-on t u went now turns out text r on (inl (p, (o, n, e, _, _, took))) =
-    one-turn then both-of before-all t u nothing-yet went now turns r on p (both-of t p) (inl (subst (λ (l : List ℕ). Fed then both-of t u went now l (both-of t p)) whole fed))
+    one-turn then both-of before-all t u nothing-yet went now turns r on p (both-of t p)
+    (inl (subst (λ (l : List ℕ). Fed then both-of t u went now l (both-of t p)) whole fed))
   where
     whole : p ≡ take (now .count) p
     whole = sym (take-length p) ∙ ap (λ (k : ℕ). take k p) n

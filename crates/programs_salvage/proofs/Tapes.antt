@@ -1,28 +1,26 @@
 -- What is written and printed of pieces is, all together, what is written and printed of the tape that they are. The pieces are a chain of answers (crate
 -- salvage_marks, specs/Pieces); what is printed goes with it piece by piece. Assumes nothing.
-use Prim.Native.Nat.{ℕ, zero, suc, _+_, _-_, _*_, _/_, _≤_}
+use Prim.Native.Nat.{ℕ, zero, _+_, _-_, _*_, _/_, _≤_}
 use native.Mathlib.Omega.{arith}
-use mathlib.Core.Bool.{Bool, true, false, cond}
-use mathlib.Core.Path.{_≡_, refl, ap, sym, subst, _∙_}
+use mathlib.Core.Bool.{Bool, true}
+use mathlib.Core.Path.{_≡_, refl, ap, sym, _∙_}
 use mathlib.Core.List.{List, [], _∷_, _++_, append-assoc, append-nil}
-use mathlib.Core.Logic.{_⊎_, inl, inr}
 use borrow.Author.Tests.{le-leb}
-use lib.Dec.{eqb, leb}
-use lib.ListN.{length, take, drop, length-append, length-drop, drop-of-length-le}
-use lib.Seq.{sets, sets-eq, take-length, drop-length}
-use Rattle.programs_flow.specs.declared.Went.{Went}
-use Rattle.programs_flow.specs.Loops.{None-empty, behind, texts}
+use lib.Dec.{eqb}
+use lib.ListN.{length, length-append, length-drop, drop-of-length-le}
+use lib.Seq.{sets, sets-eq, take-length}
+use Rattle.programs_flow.specs.Loops.{behind, texts}
 use Rattle.salvage_marks.specs.declared.Torn.{Torn}
 use Rattle.salvage_marks.specs.declared.Fed.{Fed}
 use Rattle.salvage_marks.specs.declared.Stretch.{Stretch}
 use Rattle.salvage_marks.specs.Torn.{kept, dropped, found, headed, cells, total}
-use Rattle.salvage_marks.specs.Pieces.{at-first, lastPlace, decided, written, listed, after, held, fedFits, fedOf, FedTo, lastOf, Chain, joined}
+use Rattle.salvage_marks.specs.Pieces.{lastPlace, decided, written, listed, after, held, fedFits, fedOf, FedTo, lastOf, Chain, joined}
 use Rattle.salvage_marks.specs.Pieces.Chain.{end, feed}
 use Rattle.salvage_marks.proofs.Ahead.{ahead-few}
 use Rattle.salvage_marks.proofs.Whole.{kept-long, each-byte}
 use Rattle.salvage_marks.proofs.Theorems.{in-pieces}
 use Rattle.salvage_text.specs.Lines.{stretch-text, list-text, last-text}
-use Rattle.programs_salvage.specs.Work.{Between, before-all, kept-of, lines-of, both-of, then, numbers-of, last-line, end-of, lines}
+use Rattle.programs_salvage.specs.Work.{Between, before-all, kept-of, both-of, then, numbers-of, last-line, end-of, lines}
 
 -- ---- one piece
 
@@ -70,7 +68,9 @@ linked : (t : Torn) (h p : List ℕ) (ps : List (List ℕ)) (w c : List ℕ) (b 
 unfolding held
 linked t h p ps w c b o x =
     let buf = h ++ p in
-    let y = feed {t = t} {h = h} {p = p} (answer t buf o) (written t buf) (cells (listed t buf)) (written t buf) (cells (listed t buf)) (answered t buf o) refl x in
+    let w′ = written t buf in
+    let c′ = cells (listed t buf) in
+    let y = feed {t = t} {h = h} {p = p} (answer t buf o) w′ c′ w′ c′ (answered t buf o) refl x in
     rw (take-length (written t buf), take-length (cells (listed t buf))) at y
 
 -- ---- all pieces

@@ -1,5 +1,5 @@
--- The loop over the pieces of the old tape: what a turn leaves, and the whole loop, over the buffers that are lent to it.
-use Prim.Native.Nat.{ℕ, _+_, _*_, _≤_}
+-- The loop over the pieces of the old tape: what a turn leaves in the state and in the buffers that are lent to it.
+use Prim.Native.Nat.{ℕ, _+_, _≤_}
 use mathlib.Core.Path.{_≡_}
 use mathlib.Core.List.{List}
 use mathlib.Core.Logic.{_⊎_}
@@ -23,7 +23,7 @@ standing x buf = record { torn = x .torn; held = take (x .held) buf; kept = x .k
 abbrev pub Sane : Stand → Type 0
 Sane x = (x .held ≤ 15) × (x .torn .place + x .held ≤ lastPlace) × (x .kept ≤ x .torn .place)
 
--- The buffers: for the held bytes and a piece; for what is kept of it; for the numbers that are listed, and their lines.
+-- The buffers: for the held bytes and a piece; for what is kept of it; for the numbers listed; for their lines.
 abbrev pub Rooms : List ℕ → List ℕ → List ℕ → List ℕ → Type 0
 Rooms buf out list text = (8192 ≡ length buf) × (8192 ≡ length out) × (1024 ≡ length list) × (35840 ≡ length text)
 
@@ -31,7 +31,8 @@ Rooms buf out list text = (8192 ≡ length buf) × (8192 ≡ length out) × (102
 -- failed. What the last read brought is kept.
 abbrev pub Handed : List ℕ → List ℕ → Went → Went → List ℕ → Type 0
 Handed kept lines was went out =
-    (take (length lines) out ≡ lines) × (went .count ≡ was .count) × Took (length kept + length lines) (was .kind) was went
+    (take (length lines) out ≡ lines) × (went .count ≡ was .count)
+    × Took (length kept + length lines) (was .kind) was went
 
 -- The held bytes and a piece, `buf`, were fed, with buffers of n bytes and m numbers; where that was not refused, what
 -- is kept of them stands in its buffer, and that and the lines were handed over.
@@ -42,8 +43,8 @@ Carried t buf n m was fed went out text =
     → (take (length (written t buf)) out ≡ written t buf)
     × Handed (written t buf) (list-text (cells (listed t buf))) was went text)
 
--- A turn that has read the piece p: t stands behind it, what is kept of it and its lines stand in their buffers, and all
--- of both was taken, or a write failed.
+-- A turn that has read the piece p: t stands behind it, what is kept of it and its lines stand in their buffers, and
+-- all of both was taken, or a write failed.
 abbrev pub Fed-both : Between → Between → Went → Went → List ℕ → List ℕ → List ℕ → Type 0
 Fed-both s t was went p out text =
     (1 ≤ length p) × (length p ≡ went .count) × (t ≡ then s p) × (take (length (kept-of s p)) out ≡ kept-of s p)

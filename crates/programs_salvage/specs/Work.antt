@@ -1,21 +1,21 @@
--- What salvage does, as far as a contract can say it (crate programs_flow, specs/Loops): in which state it is behind the
--- pieces that were read, how many bytes its writes took, to the new tape and to standard output together, and why it
--- ends.
+-- What salvage does, as far as a contract can say it (crate programs_flow, specs/Loops): in which state it is behind
+-- the pieces that were read, how many bytes its writes took, to the new tape and to standard output together, and why
+-- it ends.
 --
 -- These wrong programs meet all of it, and only runs refuse them (host/io.py, the stored cases): those that
--- programs_flow/specs/Loops names; one that writes the kept records to standard output and the list to the new tape; one
--- that syncs another file, or none; one that leaves a file behind where it fails, or names another one.
+-- programs_flow/specs/Loops names; one that writes the kept records to standard output and the list to the new tape;
+-- one that syncs another file, or none; one that leaves a file behind where it fails, or names another one.
 use Prim.Native.Nat.{ℕ, _+_, _-_, _/_, _≤_}
 use mathlib.Core.Path.{_≡_}
 use mathlib.Core.List.{List, [], _++_}
 use mathlib.Core.Logic.{_⊎_}
-use lib.ListN.{length, take}
+use lib.ListN.{length}
 use Rattle.programs_flow.specs.declared.Went.{Went}
-use Rattle.programs_flow.specs.Loops.{After, Text, None-empty, all-turns}
+use Rattle.programs_flow.specs.Loops.{After, Text, None-empty}
 use Rattle.salvage_marks.specs.declared.Torn.{Torn}
 use Rattle.salvage_marks.specs.declared.Stretch.{Stretch}
 use Rattle.salvage_marks.specs.Torn.{kept, dropped, found, headed, cells, total, closed}
-use Rattle.salvage_marks.specs.Pieces.{at-first, lastPlace, written, listed, after, held, lastOf, joined}
+use Rattle.salvage_marks.specs.Pieces.{at-first, written, listed, after, held, lastOf, joined}
 use Rattle.salvage_text.specs.Lines.{list-text, last-text}
 
 -- ---- pieces

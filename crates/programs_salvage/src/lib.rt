@@ -2,9 +2,9 @@
 // listed on standard output.
 //
 // The new tape never stands half written under its name. It is written as NEW.part, which is made new. It gets the name
-// NEW in one place, `give_name`, which asks that all was read and all was taken; before that it is brought to its device
-// and closed. NEW is made first, so that a file of this name is never replaced: for that moment an empty file stands
-// there. Where anything fails, what was made is removed.
+// NEW in one place, `give_name`, which asks that all was read and all was taken; before that it is brought to its
+// device and closed. NEW is made first, so that a file of this name is never replaced: for that moment an empty file
+// stands there. Where anything fails, what was made is removed.
 mod pieces;
 
 ghost use mathlib.Core.Path.{_≡_};

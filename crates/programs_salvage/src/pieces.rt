@@ -9,7 +9,7 @@ ghost use Rattle.decimal.specs.Buffer.{In-front};
 ghost use Rattle.salvage_marks.specs.Pieces.{lastOf};
 ghost use Rattle.salvage_text.specs.Lines.{list-text, last-text, list-room, last-room};
 ghost use Rattle.programs_salvage.specs.Work.{before-all, then, both-of, numbers-of, last-line, end-of, Salvaged};
-ghost use Rattle.programs_salvage.specs.Turns as turns;
+ghost use Rattle.programs_salvage.specs.Turns as turn;
 use crate::Files;
 use crate::Stand;
 use decimal_print::put_decimal;
@@ -61,7 +61,7 @@ fn put_counts(text: &mut [u8], records: u64, dropped: u64, headed: bool) -> usiz
 // Kept bytes to the new tape, and the lines of a list to standard output.
 fn hand_over(was: Went, to: i32, part: &[u8], kept: &[u8], cells: &[u64], text: &mut [u8]) -> Went
     requires { ⌜ (was .kind ≡ 0) × (list-room (now cells) ≤ length (now text)) ⌝ }
-    ensures { λ r. ⌜ turns.Handed (now (kept .entry)) (list-text (now (cells .entry))) was r (now (text .exit)) ⌝ }
+    ensures { λ r. ⌜ turn.Handed (now (kept .entry)) (list-text (now (cells .entry))) was r (now (text .exit)) ⌝ }
 {
     let n = put_dropped(text, cells);
     let went = write_to(was, to, part, kept);
@@ -83,8 +83,8 @@ fn carry(
     text: &mut [u8],
 ) -> Handed
     requires { ⌜ (was .kind ≡ 0) × (35 * length (now list) ≤ length (now text)) ⌝ }
-    ensures { λ r. ⌜ turns.Carried t (now (bytes .entry)) (length (now (out .entry))) (length (now (list .entry))) was (r .fed)
-        (r .went) (now (out .exit)) (now (text .exit)) ⌝ }
+    ensures { λ r. ⌜ turn.Carried t (now (bytes .entry)) (length (now (out .entry))) (length (now (list .entry))) was
+        (r .fed) (r .went) (now (out .exit)) (now (text .exit)) ⌝ }
 {
     let fed = feed(t, bytes, out, list);
     if fed.code != 0 {
@@ -99,7 +99,8 @@ fn carry(
 // One read behind the held bytes.
 fn take_in(was: Went, from: i32, old: &[u8], held: usize, buf: &mut [u8]) -> Went
     requires { ⌜ held ≤ length (now buf) ⌝ }
-    ensures { λ r. ⌜ Came was r (drop held (now (buf .exit))) × (take held (now (buf .exit)) ≡ take held (now (buf .entry))) ⌝ }
+    ensures { λ r. ⌜ Came was r (drop held (now (buf .exit)))
+        × (take held (now (buf .exit)) ≡ take held (now (buf .entry))) ⌝ }
 {
     read_from(was, from, old, &mut buf[held..])
 }
@@ -116,8 +117,10 @@ fn one_piece(
     list: &mut [u64],
     text: &mut [u8],
 ) -> Turn
-    requires { ⌜ turns.Sane s × turns.Rooms (now buf) (now out) (now list) (now text) ⌝ }
-    ensures { λ r. ⌜ turns.Turned (turns.standing s (now (buf .entry))) (turns.standing (r .stand) (now (buf .exit))) was (r .went) (now (out .exit)) (now (text .exit)) × turns.Sane (r .stand) ⌝ }
+    requires { ⌜ turn.Sane s × turn.Rooms (now buf) (now out) (now list) (now text) ⌝ }
+    ensures { λ r. ⌜ turn.Turned (turn.standing s (now (buf .entry))) (turn.standing (r .stand) (now (buf .exit))) was
+        (r .went) (now (out .exit)) (now (text .exit))
+        × turn.Sane (r .stand) ⌝ }
 {
     let held = s.held;
     let came = take_in(was, files.old, old, held, buf);
@@ -176,9 +179,10 @@ fn all_pieces(
     list: &mut [u64],
     text: &mut [u8],
 ) -> Turn
-    requires { ⌜ turns.Rooms (now buf) (now out) (now list) (now text) ⌝ }
-    ensures { λ r. ⌜ Looped then both-of (λ _. true) before-all (turns.standing (r .stand) (now (buf .exit))) nothing-yet (r .went) × turns.Sane (r .stand)
-        × (r .stand .held ≤ length (now (buf .exit))) ⌝ }
+    requires { ⌜ turn.Rooms (now buf) (now out) (now list) (now text) ⌝ }
+    ensures { λ r. ⌜ Looped then both-of (λ _. true) before-all (turn.standing (r .stand) (now (buf .exit))) nothing-yet
+        (r .went)
+        × turn.Sane (r .stand) × (r .stand .held ≤ length (now (buf .exit))) ⌝ }
 {
     let mut turns = 0u64;
     let mut wanted = STEP;
@@ -212,7 +216,7 @@ fn write_stretch(s: Stand, w: Went, text: &mut [u8]) -> Went
 }
 
 fn write_last(s: Stand, w: Went, text: &mut [u8]) -> Went
-    requires { ⌜ turns.Sane s × (last-room ≤ length (now text)) ⌝ }
+    requires { ⌜ turn.Sane s × (last-room ≤ length (now text)) ⌝ }
     ensures { λ r. ⌜ Concluded (last-line (s .torn) (s .held) (s .kept)) w r ⌝ }
 {
     if has_failed(w) {
@@ -226,7 +230,7 @@ fn write_last(s: Stand, w: Went, text: &mut [u8]) -> Went
 
 // What is printed behind the last piece. Where something failed the tape is not known, and nothing is said of it.
 fn conclude(s: Stand, read: Went, text: &mut [u8]) -> Went
-    requires { ⌜ turns.Sane s × (last-room ≤ length (now text)) ⌝ }
+    requires { ⌜ turn.Sane s × (last-room ≤ length (now text)) ⌝ }
     ensures { λ r. ⌜ Concluded (end-of (s .torn) (s .held) (s .kept)) read r ⌝ }
 {
     if has_failed(read) {

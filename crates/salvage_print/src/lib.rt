@@ -41,9 +41,10 @@ const MOST: usize = 527049830677415760;
 // The lines of a list of stretches (first byte and length of each, one after another) from place 0 on, and how many
 // bytes they have, where there is room for 35 bytes for each number; else nothing, and 0.
 pub fn put_list(out: &mut [u8], cells: &[u64]) -> usize
-    ensures { λ r. ⌜ (r ≡ place-after (list-room (now (cells .entry))) (now (out .entry)) 0 (list-text (now (cells .entry))))
-        × (now (out .exit) ≡ contents-after (list-room (now (cells .entry))) (now (out .entry)) 0 (list-text (now (cells .entry))))
-        ⌝ }
+    ensures { λ r. ⌜ (r
+        ≡ place-after (list-room (now (cells .entry))) (now (out .entry)) 0 (list-text (now (cells .entry))))
+        × (now (out .exit)
+        ≡ contents-after (list-room (now (cells .entry))) (now (out .entry)) 0 (list-text (now (cells .entry)))) ⌝ }
 {
     if MOST < cells.len() {
         return 0;

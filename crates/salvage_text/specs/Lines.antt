@@ -8,9 +8,10 @@ use Rattle.text.specs.Words.{bytes}
 
 -- dropped: first byte F, length L
 unfoldable pub stretch-text : ℕ → ℕ → List ℕ
-stretch-text first size = bytes "dropped: first byte " ++ decimal first ++ bytes ", length " ++ decimal size ++ bytes "\n"
+stretch-text first size =
+    bytes "dropped: first byte " ++ decimal first ++ bytes ", length " ++ decimal size ++ bytes "\n"
 
--- A list of stretches, first byte and length of one after another: a line for each. A number that is left over has none.
+-- A list of stretches, first byte and length of one after another: a line for each. A number left over has none.
 unfoldable pub list-text : List ℕ → List ℕ
 list-text [] = []
 list-text (first ∷ []) = []

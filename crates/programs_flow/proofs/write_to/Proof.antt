@@ -3,7 +3,7 @@ use borrow.Author.Needs.{needs}
 use Prim.Native.Nat.{_≤_}
 use native.Mathlib.Omega.{arith}
 use mathlib.Core.Path.{refl}
-use mathlib.Core.Logic.{inl, inr}
+use mathlib.Core.Logic.{inl}
 use lib.ListN.{length}
 use Rattle.programs_flow.proofs.Calls.{wrote-not}
 use Rattle.programs_flow.proofs.write_to.Statement.{statement}

@@ -7,7 +7,8 @@ use Rattle.salvage_cases.proofs.in_pieces.Statement.{statement}
 use Rattle.salvage_cases.proofs.in_pieces.Tie as tie
 
 abbrev Inv-loop : tie.InvT-loop
-Inv-loop tape size out₀ list₀ t₀ done₀ end₀ kept₀ cells₀ out list t done end kept cells = (length out ≡ length out₀) × (length list ≡ length list₀) × (done ≤ end) × (end ≤ length tape) × (kept ≤ length out) × (cells ≤ length list)
+Inv-loop tape size out₀ list₀ t₀ done₀ end₀ kept₀ cells₀ out list t done end kept cells =
+    (length out ≡ length out₀) × (length list ≡ length list₀) × (done ≤ end) × (end ≤ length tape) × (kept ≤ length out) × (cells ≤ length list)
 
 abbrev μ-loop : tie.MeasureT-loop
 μ-loop tape size out₀ list₀ t₀ done₀ end₀ kept₀ cells₀ out list t done end kept cells = length tape - end

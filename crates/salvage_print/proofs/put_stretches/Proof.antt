@@ -47,7 +47,9 @@ loop-less c = search needs
 loop-again : tie.Need-loop-again Inv-loop μ-loop
 loop-again c =
     let lp = c .before .before .before .before .before .before .before .loop in
-    less-left _ _ (lp .out) (lp .at) (lp .i) (lp .inv) _ _ (omega (arith, c .before .before .before .before .before .before .loop-test .taken)) (c .before .before .put-stretch .ensures)
+    let put = c .before .before in
+    let test = put .before .before .before .before in
+    less-left _ _ (lp .out) (lp .at) (lp .i) (lp .inv) _ _ (omega (arith, test .loop-test .taken)) (put .put-stretch .ensures)
 
 same-length : tie.Need-same-length Inv-loop μ-loop
 same-length c = search needs

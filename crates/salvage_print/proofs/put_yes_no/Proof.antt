@@ -20,7 +20,8 @@ returns : tie.Need-returns
 unfolding yes-no
 returns c =
     let a = c .before .before .before .before .before .before .before in
-    rw (c .before .before .before .before .before .if1 .taken) (stands 4 (a .args .out .now) (a .args .at) (bytes "yes\n") (omega arith) (c .before .before .put-text .ensures))
+    let put = c .before .before in
+    rw (put .before .before .before .if1 .taken) (stands 4 (a .args .out .now) (a .args .at) (bytes "yes\n") (omega arith) (put .put-text .ensures))
 
 slice-aggregate-put-text-2 : tie.Need-slice-aggregate-put-text-2
 slice-aggregate-put-text-2 c = search needs
@@ -35,7 +36,8 @@ returns-2 : tie.Need-returns-2
 unfolding yes-no
 returns-2 c =
     let a = c .before .before .before .before .before .before .before in
-    rw (c .before .before .before .before .before .if1 .left) (stands 3 (a .args .out .now) (a .args .at) (bytes "no\n") (omega arith) (c .before .before .put-text2 .ensures))
+    let put = c .before .before in
+    rw (put .before .before .before .if1 .left) (stands 3 (a .args .out .now) (a .args .at) (bytes "no\n") (omega arith) (put .put-text2 .ensures))
 
 pub put-yes-no-spec : {M : Type 1} → statement M
 put-yes-no-spec =

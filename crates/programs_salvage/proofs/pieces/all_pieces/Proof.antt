@@ -1,7 +1,7 @@
 -- `programs_salvage::pieces::all_pieces` meets its contract, and ends: the turns are counted (proofs/Rounds). Assumes nothing.
 use native.Mathlib.Omega.{arith}
 use Prim.Native.Nat.{_-_}
-use mathlib.Core.Path.{_≡_, refl, ap}
+use mathlib.Core.Path.{_≡_, refl, ap, _∙_}
 use mathlib.Core.Logic.{inl, inr}
 use Rattle.salvage_marks.specs.declared.Torn.{Torn}
 use borrow.Author.Needs.{needs}
@@ -60,14 +60,21 @@ loop-less c = search needs
 
 loop-again : tie.Need-loop-again Inv-loop μ-loop
 loop-again c =
-    let lp = c .before .before .before .before .before .before .before .before .before .before .before .before .before .before .before .before .before .before .before .loop in
-    let g = c .before .before .before .before .before .before .before .before .before .before .before .before .before .before .before .before .before .goes-on in
-    let one = c .before .before .before .before .before .before .before .before .before .before .before .one-piece in
-    let on = gone-on (lp .went .kind) (g .result) (g .ensures) (c .before .before .before .before .before .before .before .before .before .before .before .before .before .before .before .before .if1 .taken) in (
-      search needs,
-      search needs,
-      search needs,
-      search needs,
+    let text-on = c .before .before .before .before in
+    let list-on = text-on .before .before in
+    let out-on = list-on .before .before in
+    let buf-on = out-on .before .before in
+    let o = buf-on .before in
+    let i = o .before .before .before .before .before in
+    let g = i .before in
+    let l = g .before .before in
+    let lp = l .loop in
+    let one = o .one-piece in
+    let on = gone-on (lp .went .kind) (g .goes-on .result) (g .goes-on .ensures) (i .if1 .taken) in (
+      buf-on .buf .given ∙ lp .inv .0,
+      out-on .out .given ∙ lp .inv .1,
+      list-on .list .given ∙ lp .inv .2,
+      text-on .text .given ∙ lp .inv .3,
       one .ensures .1,
       ran-on (standing (lp .stand) (lp .buf)) _ (lp .went) (one .result .went) (lp .turns) _ _ (lp .inv .5) on (one .ensures .0),
     )
@@ -87,8 +94,9 @@ same-length-4 c = search needs
 returns : tie.Need-returns Inv-loop μ-loop
 returns c =
     let lp = c .before .before .before .loop in
-    let g = c .before .goes-on in (
-      at-end then both-of always before-all _ nothing-yet (lp .went) (lp .turns) (lp .inv .5) (inl (stopped (lp .went .kind) (g .result) (g .ensures) (c .if1 .left))),
+    let g = c .before .goes-on in
+    let why = stopped (lp .went .kind) (g .result) (g .ensures) (c .if1 .left) in (
+      at-end then both-of always before-all _ nothing-yet (lp .went) (lp .turns) (lp .inv .5) (inl why),
       lp .inv .4,
       omega (arith, lp .inv .0, lp .inv .4 .0, c .before .before .before .before .before .before .before .before .before .before .before .before .pre),
     )

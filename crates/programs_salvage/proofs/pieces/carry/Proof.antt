@@ -21,38 +21,49 @@ returns c = (c .before .before .before .before .before .before .feed .ensures .0
 
 slice-reshare-prefix-hand-over : tie.Need-slice-reshare-prefix-hand-over
 slice-reshare-prefix-hand-over c =
-    let e = c .before .before .before .before .before .before .before .before .before .before .before .before .before .before in
-    let f = c .before .before .before .before .before .before .feed in
-    let s = stands (e .args .t) (e .args .bytes .now) (e .args .out .now) (e .args .list .now) _ _ (f .result) (f .ensures) (c .if1 .left) in
+    let i = c in
+    let f = c .before .before .before .before .before .before in
+    let e = f .before .before .before .before .before .before .before .before in
+    let a = e .args in
+    let s = stands (a .t) (a .bytes .now) (a .out .now) (a .list .now) _ _ (f .feed .result) (f .feed .ensures) (i .if1 .left) in
     s .bytes
 
 slice-aggregate-hand-over : tie.Need-slice-aggregate-hand-over
 slice-aggregate-hand-over c =
-    let e = c .before .before .before .before .before .before .before .before .before .before .before .before .before .before .before in
-    let f = c .before .before .before .before .before .before .before .feed in
-    let s = stands (e .args .t) (e .args .bytes .now) (e .args .out .now) (e .args .list .now) _ _ (f .result) (f .ensures) (c .before .if1 .left) in
+    let i = c .before in
+    let f = i .before .before .before .before .before .before in
+    let e = f .before .before .before .before .before .before .before .before in
+    let a = e .args in
+    let s = stands (a .t) (a .bytes .now) (a .out .now) (a .list .now) _ _ (f .feed .result) (f .feed .ensures) (i .if1 .left) in
     sym (length-take-le _ _ (s .bytes))
 
 slice-reshare-prefix-hand-over-2 : tie.Need-slice-reshare-prefix-hand-over-2
 slice-reshare-prefix-hand-over-2 c =
-    let e = c .before .before .before .before .before .before .before .before .before .before .before .before .before .before .before in
-    let f = c .before .before .before .before .before .before .before .feed in
-    let s = stands (e .args .t) (e .args .bytes .now) (e .args .out .now) (e .args .list .now) _ _ (f .result) (f .ensures) (c .before .if1 .left) in
+    let i = c .before in
+    let f = i .before .before .before .before .before .before in
+    let e = f .before .before .before .before .before .before .before .before in
+    let a = e .args in
+    let s = stands (a .t) (a .bytes .now) (a .out .now) (a .list .now) _ _ (f .feed .result) (f .feed .ensures) (i .if1 .left) in
     s .numbers
 
 slice-aggregate-hand-over-2 : tie.Need-slice-aggregate-hand-over-2
 slice-aggregate-hand-over-2 c =
-    let e = c .before .before .before .before .before .before .before .before .before .before .before .before .before .before .before .before in
-    let f = c .before .before .before .before .before .before .before .before .feed in
-    let s = stands (e .args .t) (e .args .bytes .now) (e .args .out .now) (e .args .list .now) _ _ (f .result) (f .ensures) (c .before .before .if1 .left) in
+    let i = c .before .before in
+    let f = i .before .before .before .before .before .before in
+    let e = f .before .before .before .before .before .before .before .before in
+    let a = e .args in
+    let s = stands (a .t) (a .bytes .now) (a .out .now) (a .list .now) _ _ (f .feed .result) (f .feed .ensures) (i .if1 .left) in
     sym (length-take-le _ _ (s .numbers))
 
 hand-over-requires : tie.Need-hand-over-requires
 hand-over-requires c κs =
-    let e = c .before .before .before .before .before .before .before .before .before .before .before .before .before .before .before .before .before in
-    let f = c .before .before .before .before .before .before .before .before .before .feed in
-    let s = stands (e .args .t) (e .args .bytes .now) (e .args .out .now) (e .args .list .now) _ _ (f .result) (f .ensures) (c .before .before .before .if1 .left) in
-    (e .pre .0, omega (arith, e .pre .1, length-take-le (f .result .cells) (f .last .1 .1 .1 .0) (s .numbers), s .numbers, s .long))
+    let i = c .before .before .before in
+    let f = i .before .before .before .before .before .before in
+    let e = f .before .before .before .before .before .before .before .before in
+    let a = e .args in
+    let s = stands (a .t) (a .bytes .now) (a .out .now) (a .list .now) _ _ (f .feed .result) (f .feed .ensures) (i .if1 .left) in
+    let n = length-take-le (f .feed .result .cells) (f .feed .last .1 .1 .1 .0) (s .numbers) in
+    (e .pre .0, omega (arith, e .pre .1, n, s .numbers, s .long))
 
 same-length-3 : tie.Need-same-length-3
 same-length-3 c = search needs
@@ -65,10 +76,13 @@ same-length-5 c = search needs
 
 returns-2 : tie.Need-returns-2
 returns-2 c =
-    let e = c .before .before .before .before .before .before .before .before .before .before .before .before .before .before .before .before .before .before .before .before in
-    let f = c .before .before .before .before .before .before .before .before .before .before .before .before .feed in
-    let s = stands (e .args .t) (e .args .bytes .now) (e .args .out .now) (e .args .list .now) _ _ (f .result) (f .ensures) (c .before .before .before .before .before .before .if1 .left) in
-    carried (e .args .t) (e .args .bytes .now) (e .args .out .now) (e .args .list .now) _ _ (f .result) (e .args .was) _ _ (f .ensures) s (c .before .before .hand-over .ensures)
+    let h = c .before .before in
+    let i = h .before .before .before .before in
+    let f = i .before .before .before .before .before .before in
+    let e = f .before .before .before .before .before .before .before .before in
+    let a = e .args in
+    let s = stands (a .t) (a .bytes .now) (a .out .now) (a .list .now) _ _ (f .feed .result) (f .feed .ensures) (i .if1 .left) in
+    carried (a .t) (a .bytes .now) (a .out .now) (a .list .now) _ _ (f .feed .result) (a .was) _ _ (f .feed .ensures) s (h .hand-over .ensures)
 
 pub carry-spec : {M : Type 1} → statement M
 carry-spec =

@@ -27,12 +27,15 @@ same-length c = search needs
 
 returns-2 : tie.Need-returns-2
 returns-2 c =
-    let f = c .before .before .before .before .before .before .before .before .before .has-failed in
-    let a = c .before .before .before .before .before .before .before .before .before .before .before .args in
-    let first = c .before .before .before .before .before .before .write-stretch in
-    let end = c .before .before .write-last in
-    then-more (list-text (numbers-of (lastOf (a .s .torn) (a .s .held)))) (last-line (a .s .torn) (a .s .held) (a .s .kept)) (a .read) (first .result)
-    (end .result) (not-failed (a .read .kind) (f .result) (f .ensures) (c .before .before .before .before .before .before .before .before .if1 .left)) (first .ensures) (end .ensures)
+    let end = c .before .before in
+    let first = end .before .before .before .before in
+    let i = first .before .before in
+    let f = i .before in
+    let e = f .before .before in
+    let a = e .args in
+    let o = not-failed (a .read .kind) (f .has-failed .result) (f .has-failed .ensures) (i .if1 .left) in
+    then-more (list-text (numbers-of (lastOf (a .s .torn) (a .s .held)))) (last-line (a .s .torn) (a .s .held) (a .s .kept)) (a .read)
+    (first .write-stretch .result) (end .write-last .result) o (first .write-stretch .ensures) (end .write-last .ensures)
 
 pub conclude-spec : {M : Type 1} → statement M
 conclude-spec =

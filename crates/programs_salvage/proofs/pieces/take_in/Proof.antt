@@ -24,8 +24,9 @@ same-length c = search needs
 returns : tie.Need-returns
 returns c =
     let e = c .before .before .before .before .before .before in
+    let a = e .args in
     let f = c .before .before .read-from in
-    came-behind (e .args .was) (f .result) (e .args .held) (length (e .args .buf .now) - e .args .held) (e .args .buf .now) (f .last .1 .1 .1 .0) (e .pre) (f .ensures)
+    came-behind (a .was) (f .result) (a .held) (length (a .buf .now) - a .held) (a .buf .now) (f .last .1 .1 .1 .0) (e .pre) (f .ensures)
 
 pub take-in-spec : {M : Type 1} → statement M
 take-in-spec =

@@ -37,11 +37,14 @@ same-length c = search needs
 
 returns-2 : tie.Need-returns-2
 returns-2 c =
-    let f = c .before .before .before .before .before .before .before .before .before .before .before .has-failed in
-    let a = c .before .before .before .before .before .before .before .before .before .before .before .before .before .args in
-    let put = c .before .before .before .before .put-counts in
-    last-written (last-line (a .s .torn) (a .s .held) (a .s .kept)) _ (put .result) _ (c .write-whole .result) (f .result) (f .ensures) (c .before .before .before .before .before .before .before .before .before .before .if1 .left)
-    (put .ensures .0) (c .write-whole .ensures)
+    let put = c .before .before .before .before in
+    let i = put .before .before .before .before .before .before in
+    let f = i .before in
+    let e = f .before .before in
+    let s = e .args .s in
+    let w = c .write-whole in
+    last-written (last-line (s .torn) (s .held) (s .kept)) _ (put .put-counts .result) _ (w .result) (f .has-failed .result) (f .has-failed .ensures)
+    (i .if1 .left) (put .put-counts .ensures .0) (w .ensures)
 
 pub write-last-spec : {M : Type 1} → statement M
 write-last-spec =

@@ -32,10 +32,13 @@ same-length c = search needs
 
 returns-2 : tie.Need-returns-2
 returns-2 c =
-    let x = c .before .before .before .before .before .before .before .before .before .last-stretch in
-    let put = c .before .before .before .before .put-dropped in
-    one-taken (x .result) _ _ (put .result) (c .before .before .before .before .before .before .before .before .before .before .before .args .w) (c .write-whole .result) (x .ensures) (c .before .before .before .before .before .before .before .if1 .left) (put .ensures .0)
-    (c .write-whole .ensures)
+    let put = c .before .before .before .before in
+    let i = put .before .before .before in
+    let x = i .before .before in
+    let e = x .before .before in
+    let w = c .write-whole in
+    one-taken (x .last-stretch .result) _ _ (put .put-dropped .result) (e .args .w) (w .result) (x .last-stretch .ensures) (i .if1 .left)
+    (put .put-dropped .ensures .0) (w .ensures)
 
 pub write-stretch-spec : {M : Type 1} → statement M
 write-stretch-spec =
