@@ -1,6 +1,6 @@
 -- What the programs do, as far as a contract can say it: in which state they are behind the pieces that were read,
--- how many bytes their writes took, and why they end. Only the reads and writes of crate programs_flow give a `Went`, so how
--- many bytes were taken is no claim of a program.
+-- how many bytes their writes took, and why they end. Only the reads and writes of crate programs_flow give a `Went`,
+-- so how many bytes were taken is no claim of a program.
 --
 -- These wrong programs meet all of it, and only runs refuse them (host/io.py, the stored cases). One reads twice and
 -- drops what the first read brought. One takes a failed read for the end of the input. One writes other bytes, as

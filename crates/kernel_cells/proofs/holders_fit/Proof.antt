@@ -91,7 +91,9 @@ loop-again-2 c =
     let all : length (a .base .now) ≡ 32 = h .before .before .bases .given .0 in
     let now : length (h .loop .taken) ≡ 8 = h .loop .inv .0 in (
       simp length-set now,
-      h .loop .inv .1 ∙ holders-step (a .t3) (h .loop .taken) (a .base .now) (a .held .now) (h .loop .t) (omega arith) (omega arith) (c .before .before .before .before .if1 .left) (c .before .before .before .if2 .left) (rw (← c .before .admits .ensures) (not-false _ (c .if3 .left))),
+      h .loop .inv .1 ∙ holders-step (a .t3) (h .loop .taken) (a .base .now) (a .held .now) (h .loop .t) (omega arith) (omega arith)
+          (c .before .before .before .before .if1 .left) (c .before .before .before .if2 .left)
+          (rw (← c .before .admits .ensures) (not-false _ (c .if3 .left))),
     )
 
 returns-3 : tie.Need-returns-3 Inv-loop μ-loop

@@ -45,7 +45,8 @@ loop-again c =
     let h = c .before .before .before in
     let a = h .before .args in (
       omega arith,
-      rw (c .object-fits .ensures, c .before .of-task .ensures) (gather (λ o. objectFits o (at (a .t2) o) (at (a .t3) o) (at (a .base .now) (at (a .t3) o))) (h .loop .o) (h .loop .fit) (h .loop .inv .1)),
+      rw (c .object-fits .ensures, c .before .of-task .ensures) (gather (λ o. objectFits o (at (a .t2) o) (at (a .t3) o) (at (a .base .now) (at (a .t3) o)))
+          (h .loop .o) (h .loop .fit) (h .loop .inv .1)),
     )
 
 returns : tie.Need-returns Inv-loop μ-loop

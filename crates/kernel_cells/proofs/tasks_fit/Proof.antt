@@ -46,7 +46,9 @@ loop-again c =
     let h = c .before .before .before .before .before .before in
     let a = h .before .args in (
       omega arith,
-      ap (λ (x : Bool). x && h .loop .fit) (c .task-fits .ensures) ∙ gather (λ t. taskFits (at (a .base .now) t) (at (a .place .now) t) (at (a .held .now) t) (at (a .way .now) t)) (h .loop .t) (h .loop .fit) (h .loop .inv .1),
+      ap (λ (x : Bool). x && h .loop .fit) (c .task-fits .ensures)
+          ∙ gather (λ t. taskFits (at (a .base .now) t) (at (a .place .now) t) (at (a .held .now) t) (at (a .way .now) t))
+          (h .loop .t) (h .loop .fit) (h .loop .inv .1),
     )
 
 returns : tie.Need-returns Inv-loop μ-loop

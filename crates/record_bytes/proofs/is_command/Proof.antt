@@ -53,7 +53,8 @@ returns-2 c =
     let e = d .before .before .before in
     let i = e .before in
     let m = sym (i .before .is-marked .ensures) ∙ not-false _ (i .if1 .left) in
-    fields (i .before .before .before .args .p .now) m (e .byte .ensures) (d .before .before .byte2 .ensures) (d .before .byte3 .ensures) (d .byte4 .ensures) (c .in-command .ensures)
+    fields (i .before .before .before .args .p .now) m (e .byte .ensures) (d .before .before .byte2 .ensures) (d .before .byte3 .ensures)
+    (d .byte4 .ensures) (c .in-command .ensures)
 
 pub is-command-spec : {M : Type 1} → statement M
 is-command-spec =

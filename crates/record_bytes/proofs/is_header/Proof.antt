@@ -9,7 +9,8 @@ use borrow.Author.Needs.{needs}
 use Rattle.record_bytes.proofs.is_header.Statement.{statement}
 use Rattle.record_bytes.proofs.is_header.Tie as tie
 
-tests : (p : List ℕ) {m h v : Bool} {r : Record} → r ≡ recordOf p → m ≡ marked p → h ≡ headerFields r → v ≡ isSeed (r .value) → (m && h && v) ≡ isHeader p
+tests : (p : List ℕ) {m h v : Bool} {r : Record} → r ≡ recordOf p → m ≡ marked p → h ≡ headerFields r → v ≡ isSeed (r .value)
+    → (m && h && v) ≡ isHeader p
 tests p e a b d = rw (a, b, d, e)
 
 record-of-requires : tie.Need-record-of-requires
@@ -27,7 +28,8 @@ is-seed-requires c κs = search needs
 returns : tie.Need-returns
 returns c =
     let b = c .before .before in
-    tests (b .before .before .before .args .p .now) (b .before .record-of .ensures) (b .is-marked .ensures) (c .before .header-fields .ensures) (c .is-seed .ensures)
+    tests (b .before .before .before .args .p .now) (b .before .record-of .ensures) (b .is-marked .ensures)
+    (c .before .header-fields .ensures) (c .is-seed .ensures)
 
 pub is-header-spec : {M : Type 1} → statement M
 is-header-spec =

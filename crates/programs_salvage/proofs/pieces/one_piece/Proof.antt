@@ -39,7 +39,8 @@ add-all c =
     let e = t .before .before .before .before .before .before .before .before .before in
     let n = c in
     let fit : e .args .s .held + n .brought .result ≤ length (t .take-in .last .1 .1 .1 .1 .0) =
-    omega (arith, t .take-in .ensures .0 .0 .0, n .brought .ensures, length-drop (e .args .s .held) (t .take-in .last .1 .1 .1 .1 .0), e .pre .0 .0, e .pre .1) in
+    omega
+    (arith, t .take-in .ensures .0 .0 .0, n .brought .ensures, length-drop (e .args .s .held) (t .take-in .last .1 .1 .1 .1 .0), e .pre .0 .0, e .pre .1) in
     omega (arith, fit)
 
 slice-reshare-prefix-carry : tie.Need-slice-reshare-prefix-carry
@@ -48,7 +49,8 @@ slice-reshare-prefix-carry c =
     let e = t .before .before .before .before .before .before .before .before .before in
     let n = c in
     let fit : e .args .s .held + n .brought .result ≤ length (t .take-in .last .1 .1 .1 .1 .0) =
-    omega (arith, t .take-in .ensures .0 .0 .0, n .brought .ensures, length-drop (e .args .s .held) (t .take-in .last .1 .1 .1 .1 .0), e .pre .0 .0, e .pre .1) in
+    omega
+    (arith, t .take-in .ensures .0 .0 .0, n .brought .ensures, length-drop (e .args .s .held) (t .take-in .last .1 .1 .1 .1 .0), e .pre .0 .0, e .pre .1) in
     fit
 
 slice-aggregate-carry : tie.Need-slice-aggregate-carry
@@ -57,7 +59,8 @@ slice-aggregate-carry c =
     let t = n .before .before .before .before .before in
     let e = t .before .before .before .before .before .before .before .before .before in
     let fit : e .args .s .held + n .brought .result ≤ length (t .take-in .last .1 .1 .1 .1 .0) =
-    omega (arith, t .take-in .ensures .0 .0 .0, n .brought .ensures, length-drop (e .args .s .held) (t .take-in .last .1 .1 .1 .1 .0), e .pre .0 .0, e .pre .1) in
+    omega
+    (arith, t .take-in .ensures .0 .0 .0, n .brought .ensures, length-drop (e .args .s .held) (t .take-in .last .1 .1 .1 .1 .0), e .pre .0 .0, e .pre .1) in
     sym (length-take-le _ _ fit)
 
 carry-requires : tie.Need-carry-requires
