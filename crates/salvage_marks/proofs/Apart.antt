@@ -1,9 +1,9 @@
 -- Where the stretches stand: in order, none empty, whole records between two of them and at the tape's ends; and what is not listed is the new tape, byte for
 -- byte. By induction on the length of what is left: a record that is kept moves the place by 16. Assumes nothing.
-use Prim.Native.Nat.{ℕ, zero, suc, _+_, _-_, _*_, _%_, _≤_, _<_}
+use Prim.Native.Nat.{ℕ, zero, suc, _+_, _-_, _%_, _≤_, _<_}
 use native.Mathlib.Omega.{arith}
 use mathlib.Core.Path.{_≡_, refl, sym, ap, _∙_}
-use mathlib.Core.Bool.{Bool, true, false, cond}
+use mathlib.Core.Bool.{Bool, true, false}
 use mathlib.Core.List.{List, [], _∷_, _++_, append-assoc}
 use borrow.Author.Tests.{ltb-true, ltb-false}
 use lib.Dec.{ltb}
@@ -25,7 +25,8 @@ abbrev pub cut : ℕ → List Stretch → List ℕ → List ℕ
 cut place [] l = l
 cut place (x ∷ xs) l = take (x .first - place) l ++ cut (x .first + x .size) xs (drop (x .first + x .size - place) l)
 
--- What is shown of what is left of a tape, l, at the place `at`. Behind the place `base` whole records were kept up to `from`, and all bytes from there on dropped.
+-- What is shown of what is left of a tape, l, at the place `at`. Behind the place `base` whole records were kept up to `from`, and all bytes from there on were
+-- dropped.
 abbrev Stands : ℕ → ℕ → ℕ → ℕ → ℕ → List ℕ → List Stretch → List ℕ → Type 0
 Stands k base from at n l xs q = Apart k base n xs × ((r : List ℕ) → length r ≡ at - base → cut base xs (r ++ l) ≡ take (from - base) r ++ q)
 
@@ -58,7 +59,8 @@ module _ (k base from at n : ℕ) (o : base + k ≤ from) (w : (from - base) % 1
           let d : n ≡ from = omega arith in
           rw (closed-no from at [] h) ((omega arith, rw d w), λ r m. ap (λ (x : List ℕ). x ++ []) (sym (take-all (from - base) r (omega arith))))
 
-  kept-here : (f : Bool) (l : List ℕ) → makes f l ≡ true → at + length l ≡ n → Shown (length l) → Stands k base from at n l (dropped-on f from at l) (kept-on f l)
+  kept-here : (f : Bool) (l : List ℕ) → makes f l ≡ true → at + length l ≡ n → Shown (length l)
+      → Stands k base from at n l (dropped-on f from at l) (kept-on f l)
   kept-here f l t e ih = rw (dropped-keep f from at l t, kept-keep f l t) (go (ltb from at) refl)
     where
       long : 16 ≤ length l
@@ -78,7 +80,8 @@ module _ (k base from at n : ℕ) (o : base + k ≤ from) (w : (from - base) % 1
           let h : from < at = ltb-true from at b in
           let y : 16 ≤ length l = long in
           let d : at + 16 - at ≡ 16 = omega arith in
-          let z = ih false 16 at (at + 16) (at + 16) n (drop 16 l) (omega (arith, length-drop 16 l)) (omega (arith, length-drop 16 l)) (omega arith) (rw d) (omega arith) in
+          let rest = length-drop 16 l in
+          let z = ih false 16 at (at + 16) (at + 16) n (drop 16 l) (omega arith) (omega arith) (omega arith) (rw d) (omega arith) in
           let tk : take (at + 16 - at) (take 16 l) ≡ take 16 l = rw d (take-take 16 16 l (omega arith)) in
           let c : cut at xs l ≡ take 16 l ++ q =
           ap (cut at xs) (sym (take-append-drop 16 l)) ∙ z .1 (take 16 l) (sixteen ∙ sym d) ∙ ap (λ (x : List ℕ). x ++ q) tk in
@@ -86,7 +89,8 @@ module _ (k base from at n : ℕ) (o : base + k ≤ from) (w : (from - base) % 1
       go false b =
           let h : at ≤ from = ltb-false from at b in
           let v : 16 ≤ length l = long in
-          let z = ih false k base (at + 16) (at + 16) n (drop 16 l) (omega (arith, length-drop 16 l)) (omega (arith, length-drop 16 l)) (omega arith) (omega arith) (omega arith) in
+          let rest = length-drop 16 l in
+          let z = ih false k base (at + 16) (at + 16) n (drop 16 l) (omega arith) (omega arith) (omega arith) (omega arith) (omega arith) in
           rw (closed-no from at xs h) (
             z .0,
             λ r m.

@@ -1,25 +1,24 @@
--- A salvage in pieces is the salvage of the whole tape, whatever the pieces: by induction on the chain of answers. What each answer leaves to come is the rest of
--- the whole tape's marks. Assumes nothing.
+-- A salvage in pieces is the salvage of the whole tape, whatever the pieces: by induction on the chain of answers. What each answer leaves to come is the rest
+-- of the whole tape's marks. Assumes nothing.
 use Prim.Native.Nat.{ℕ, zero, suc, _+_, _-_, _*_, _≤_, _<_}
 use native.Mathlib.Omega.{arith}
 use mathlib.Core.Path.{_≡_, refl, sym, ap, _∙_}
-use mathlib.Core.Bool.{Bool, true, false, cond, _&&_, _||_, true≢false}
-use mathlib.Core.List.{List, [], _∷_, _++_, append-assoc, append-nil}
+use mathlib.Core.Bool.{Bool, true, false, cond, _&&_, _||_}
+use mathlib.Core.List.{List, [], _++_, append-assoc, append-nil}
 use borrow.Author.Tests.{leb-true, leb-false, le-leb, lt-leb, ne-eqb, le-ltb, ltb-false}
 use lib.Dec.{leb, ltb, eqb}
 use lib.ListN.{length, take, drop, length-append, length-drop}
 use lib.Seq.{sets, sets-eq, take-at, take-append-le}
-use Rattle.record.specs.Form.{isHeader}
 use Rattle.salvage_marks.specs.declared.Stretch.{Stretch}
 use Rattle.salvage_marks.specs.declared.Torn.{Torn}
 use Rattle.salvage_marks.specs.declared.Fed.{Fed}
-use Rattle.salvage_marks.specs.Torn.{makes, marks, pick, closed, stretches, kept-on, dropped-on, kept, dropped, headed, cells}
-use Rattle.salvage_marks.specs.Pieces.{ahead, ended, begun, at-first, lastPlace, least, opened, decided, written, listed, after, held}
+use Rattle.salvage_marks.specs.Torn.{marks, pick, closed, stretches, kept-on, dropped-on, kept, dropped, headed, cells}
+use Rattle.salvage_marks.specs.Pieces.{ended, begun, at-first, lastPlace, least, opened, decided, written, listed, after, held}
 use Rattle.salvage_marks.specs.Pieces.{fedFits, fedOf, FedTo, lastOf, Chain, joined}
 use Rattle.salvage_marks.specs.Pieces.Chain.{end, feed}
 use Rattle.salvage_marks.proofs.Marks.{both-true, cells-join}
-use Rattle.salvage_marks.proofs.Ahead.{marks-ahead, ahead-short, rest-short, ahead-few, pick-join, stretches-join, begun-before, short-marks, pick-none, one-stretch, pick-few}
-use Rattle.salvage_marks.proofs.Ahead.{few-cells}
+use Rattle.salvage_marks.proofs.Ahead.{marks-ahead, ahead-short, rest-short, ahead-few, pick-join, stretches-join, begun-before, short-marks, pick-none}
+use Rattle.salvage_marks.proofs.Ahead.{one-stretch, pick-few, few-cells}
 
 place-zero : (a n : ℕ) → (eqb a 0 && eqb n 0) ≡ eqb (a + n) 0
 place-zero zero zero = refl
@@ -193,7 +192,8 @@ pub one-kept : (s : List ℕ) → kept s ≡ written at-first s
 unfolding kept
 one-kept s =
     let l : List ℕ = held at-first s in
-    let k : kept-on (eqb (after at-first s .place) 0) (l ++ []) ≡ [] = rw (append-nil l, short-marks (eqb (after at-first s .place) 0) l (held-short at-first s)) (pick-none l) in
+    let z : Bool = eqb (after at-first s .place) 0 in
+    let k : kept-on z (l ++ []) ≡ [] = rw (append-nil l, short-marks z l (held-short at-first s)) (pick-none l) in
     rw (append-nil s, k, append-nil (written at-first s)) at (piece-written at-first s [])
 
 pub one-dropped : (s : List ℕ) → dropped s ≡ listed at-first s ++ closed (after at-first s .from) (length s) []

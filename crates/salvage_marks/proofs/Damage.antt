@@ -2,7 +2,7 @@
 -- number of places. By the marks: those of whole records are what they were, and those of bytes in which no record begins are all false. Assumes nothing.
 use Prim.Native.Nat.{ℕ, zero, suc, _+_, _≤_, _<_}
 use native.Mathlib.Omega.{arith}
-use mathlib.Core.Path.{_≡_, refl, sym, ap, _∙_}
+use mathlib.Core.Path.{_≡_, refl, ap, _∙_}
 use mathlib.Core.Bool.{Bool, true, false, cond}
 use mathlib.Core.List.{List, [], _∷_, _++_, append-nil}
 use borrow.Author.Tests.{le-leb, ne-eqb}
@@ -145,7 +145,8 @@ module _ (a : List ℕ) (gs : List Gap) (end : List ℕ) (o : 0 < length a) (w :
   pub none-lost : kept (a ++ torn-at gs end) ≡ a ++ saved gs
   unfolding kept
   none-lost =
-      ap (λ (m : List Bool). pick m (a ++ torn-at gs end)) (marks-whole true a (torn-at gs end) o w) ∙ pick-front (marks false zero (torn-at gs end)) a (torn-at gs end)
+      ap (λ (m : List Bool). pick m (a ++ torn-at gs end)) (marks-whole true a (torn-at gs end) o w)
+      ∙ pick-front (marks false zero (torn-at gs end)) a (torn-at gs end)
       ∙ ap (λ (l : List ℕ). a ++ l) (gaps-kept gs end n)
 
   pub all-listed : dropped (a ++ torn-at gs end) ≡ gaps (length a) gs end

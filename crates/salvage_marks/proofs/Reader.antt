@@ -17,9 +17,9 @@ use Rattle.record.proofs.Faults.{own-fault, unfaulted}
 use Rattle.tape.specs.Run.{tapeOf, Takes, answers, foundAll}
 use Rattle.tape.proofs.Writing.{accepted, accepts}
 use Rattle.tape.proofs.Runs.{run-there, run-answers}
-use Rattle.salvage_marks.specs.Torn.{is-record, makes, marks, pick, kept-on, kept, dropped, found-on, found, headed}
+use Rattle.salvage_marks.specs.Torn.{is-record, makes, marks, pick, kept-on, kept, found-on, found, headed}
 use Rattle.salvage_marks.proofs.Marks.{both-true, and-false, makes-long, makes-record, kept-keep, kept-drop}
-use Rattle.salvage_marks.proofs.Whole.{Whole, whole-joined, whole-same}
+use Rattle.salvage_marks.proofs.Whole.{Whole, whole-joined}
 
 -- every element is a byte
 abbrev pub Bytes : List ℕ → Type 0
@@ -32,7 +32,8 @@ faultless : (at : ℕ) (p : List ℕ) → marked p ≡ true → faultOf at (reco
 unfolding faultOf
 faultless at p = go (eqb at 0) (marked p) (commandFields (recordOf p)) (headerFields (recordOf p)) (isSeed (recordOf p .value))
   where
-    go : (z m k h v : Bool) → m ≡ true → cond {A = ℕ} z (cond {A = ℕ} h (cond {A = ℕ} v 0 17) 15) (cond {A = ℕ} k 0 15) ≡ 0 → ((m && k) || (z && (m && h && v))) ≡ true
+    go : (z m k h v : Bool) → m ≡ true → cond {A = ℕ} z (cond {A = ℕ} h (cond {A = ℕ} v 0 17) 15) (cond {A = ℕ} k 0 15) ≡ 0
+        → ((m && k) || (z && (m && h && v))) ≡ true
     go z false k h v e f = absurd (true≢false (sym e))
     go z true true h v e f = refl
     go true true false true true e f = refl

@@ -73,8 +73,8 @@ header-kept s = reader.header-kept s
 pub records-whole : (n at : ℕ) (rs : List Record) → Takes n at rs → Whole (eqb at 0) (tapeOf rs)
 records-whole n at rs t = reader.tape-whole n at rs t
 
--- Records a, the tape's first; then at any number of places bytes put in, or records cut out; and bytes behind the last record. If no record begins in what was put
--- in, all the records that are there are kept, and exactly what was put in is listed.
+-- Records a, the tape's first; then at any number of places bytes put in, or records cut out; and bytes behind the last record. If no record begins in what was
+-- put in, all the records that are there are kept, and exactly what was put in is listed.
 -- Rules out: a salvage that misses a record behind damage.
 pub none-lost : (a : List ℕ) (gs : List Gap) (end : List ℕ) → 0 < length a → Whole true a → Loses-none gs end
     → (kept (a ++ torn-at gs end) ≡ a ++ saved gs) × (dropped (a ++ torn-at gs end) ≡ gaps (length a) gs end)
@@ -106,7 +106,9 @@ room-exactly s n m = go (leb (length (kept s)) n) refl (leb (length (cells (drop
         let a : length (kept s) ≤ n = leb-true (length (kept s)) n e in
         let b : length (cells (dropped s)) ≤ m = leb-true (length (cells (dropped s))) m d in
         whole (omega (arith, kept-long s)) (omega (arith, cells-long (dropped s)))
-    go true e false d = let b : m < length (cells (dropped s)) = leb-false (length (cells (dropped s))) m d in no-numbers (omega (arith, cells-long (dropped s)))
+    go true e false d =
+        let b : m < length (cells (dropped s)) = leb-false (length (cells (dropped s))) m d in
+        no-numbers (omega (arith, cells-long (dropped s)))
     go false e y d = let a : n < length (kept s) = leb-false (length (kept s)) n e in no-bytes (omega (arith, kept-long s))
 
 -- ---- In pieces

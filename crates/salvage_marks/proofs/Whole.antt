@@ -1,6 +1,6 @@
 -- Each byte is kept or listed; the new tape is whole, that is, every byte of it is kept; and of a whole tape nothing is dropped. By induction on the marks, and
 -- where a record is kept, on the length of what is left. Assumes nothing.
-use Prim.Native.Nat.{ℕ, zero, suc, _+_, _-_, _*_, _≤_, _<_}
+use Prim.Native.Nat.{ℕ, zero, suc, _+_, _-_, _*_, _≤_}
 use native.Mathlib.Omega.{arith}
 use mathlib.Core.Path.{_≡_, refl, sym, ap, _∙_}
 use mathlib.Core.Bool.{Bool, true, false, cond, true≢false}

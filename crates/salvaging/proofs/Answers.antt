@@ -1,20 +1,19 @@
 -- Laws of the answers: which exit of `feed` and of `salvage` is which case of the definition. Assumes nothing.
-use Prim.Native.Nat.{ℕ, zero, suc, _+_, _-_, _*_, _/_, _≤_, _<_}
+use Prim.Native.Nat.{ℕ, zero, _+_, _-_, _*_, _/_, _≤_, _<_}
 use native.Mathlib.Omega.{arith}
 use mathlib.Core.Path.{_≡_, refl, sym, ap, _∙_}
-use mathlib.Core.Bool.{Bool, true, false, cond, _&&_, _||_}
-use mathlib.Core.List.{List, [], _∷_, _++_}
-use borrow.Author.Tests.{le-leb, lt-leb, leb-true}
+use mathlib.Core.Bool.{Bool, true, false, _&&_, _||_}
+use mathlib.Core.List.{List, [], _++_}
+use borrow.Author.Tests.{le-leb, lt-leb}
 use lib.Dec.{eqb, leb}
 use lib.ListN.{length, length-append}
 use lib.Seq.{sets}
-use Rattle.salvage_marks.specs.declared.Stretch.{Stretch}
 use Rattle.salvage_marks.specs.declared.Torn.{Torn}
 use Rattle.salvage_marks.specs.declared.Fed.{Fed}
 use Rattle.salvage_marks.specs.declared.Salvaged.{Salvaged}
 use Rattle.salvage_marks.specs.Torn.{pick, closed, kept, dropped, found, headed, cells, fits, salvagedOf, SalvagedTo}
-use Rattle.salvage_marks.specs.Pieces.{ended, begun, lastPlace, opened, at-first, decided, written, listed, after, fedFits, fedOf, FedTo}
-use Rattle.salvage_marks.proofs.Marks.{both-true, and-false, cells-join, cells-long}
+use Rattle.salvage_marks.specs.Pieces.{ended, lastPlace, opened, written, listed, after, fedFits, fedOf, FedTo}
+use Rattle.salvage_marks.proofs.Marks.{and-false, cells-join, cells-long}
 use Rattle.salvage_marks.proofs.Whole.{kept-long}
 use Rattle.salvage_marks.proofs.Ahead.{ahead-few, pick-few, few-cells}
 use Rattle.salvage_marks.proofs.Chained.{one-kept, one-dropped}

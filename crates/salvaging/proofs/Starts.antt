@@ -1,17 +1,17 @@
 -- Where a pass starts: behind a header that is kept at byte 0, or at the first byte, and then byte 0 is a place like any other. And a whole tape as one piece.
 -- Assumes nothing.
-use Prim.Native.Nat.{ℕ, zero, suc, _+_, _-_, _*_, _/_, _%_, _≤_, _<_}
+use Prim.Native.Nat.{ℕ, zero, _+_, _-_, _/_, _%_, _≤_, _<_}
 use native.Mathlib.Omega.{arith}
 use mathlib.Core.Path.{_≡_, refl, sym, ap, _∙_}
-use mathlib.Core.Bool.{Bool, true, false, cond, _&&_, true≢false}
+use mathlib.Core.Bool.{Bool, true, false, cond, _&&_}
 use mathlib.Core.List.{List, [], _∷_, _++_}
 use borrow.Author.Tests.{eqb-true, ne-eqb, le-leb, lt-leb}
 use lib.Dec.{eqb, leb}
-use lib.ListN.{length, take, drop, replicate, length-append, length-drop}
+use lib.ListN.{length, take, drop, replicate, length-append}
 use lib.Seq.{sets, length-take-le}
 use Rattle.record.specs.Form.{isHeader}
 use Rattle.salvage_marks.specs.declared.Stretch.{Stretch}
-use Rattle.salvage_marks.specs.Torn.{makes, pick, closed, headed, cells}
+use Rattle.salvage_marks.specs.Torn.{pick, headed, cells}
 use Rattle.salvage_marks.specs.Pieces.{ahead, ended, begun}
 use Rattle.salvage_marks.proofs.Marks.{both-true, and-false, makes-long, pick-trues, closed-none}
 use Rattle.salvage_marks.proofs.Ahead.{ahead-keep, ended-trues, begun-trues, pick-few, few-cells}
@@ -113,13 +113,15 @@ module _ (place begin size : ℕ) (buf : List ℕ) (s : Starts place begin size 
       let n : length (pick (marked-at place buf) buf) ≡ size + length (pick (to-go buf size) (drop size buf)) =
       ap (λ (x : List ℕ). length x) (s .bytes) ∙ length-append (take size buf) _
       ∙ ap (λ (k : ℕ). k + length (pick (to-go buf size) (drop size buf))) (length-take-le size buf (s .within)) in
-      let z : 0 + length (cells (ended (begin + size) (place + size) (to-go buf size))) ≡ length (cells (ended (begin + size) (place + size) (to-go buf size))) = omega arith in
+      let k : ℕ = length (cells (ended (begin + size) (place + size) (to-go buf size))) in
+      let z : 0 + k ≡ k = omega arith in
       same (sym (s .marks)) (sym (s .begins)) (sym n) (z ∙ sym (ap (λ (x : List Stretch). length (cells x)) (s .stretches)))
 
   pub start-out : (out : List ℕ) → sets (sets out 0 (take size buf)) size (pick (to-go buf size) (drop size buf)) ≡ sets out 0 (pick (marked-at place buf) buf)
   start-out out =
       let n : 0 + length (take size buf) ≡ size = omega (arith, length-take-le size buf (s .within)) in
-      sym (ap (sets out 0) (s .bytes) ∙ sets-join out 0 (take size buf) _ ∙ ap (λ (k : ℕ). sets (sets out 0 (take size buf)) k (pick (to-go buf size) (drop size buf))) n)
+      sym (ap (sets out 0) (s .bytes) ∙ sets-join out 0 (take size buf) _
+      ∙ ap (λ (k : ℕ). sets (sets out 0 (take size buf)) k (pick (to-go buf size) (drop size buf))) n)
 
 -- ---- when it fits for sure
 

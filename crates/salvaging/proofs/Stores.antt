@@ -1,11 +1,11 @@
 -- Laws of `sets`, a run of stores: one behind another is one run, the next store, and what a run leaves alone. Assumes nothing.
-use Prim.Native.Nat.{ℕ, zero, suc, _+_, _≤_, _<_}
+use Prim.Native.Nat.{ℕ, zero, suc, _+_, _-_, _≤_, _<_}
 use native.Mathlib.Omega.{arith}
 use native.Mathlib.Numerals.{add-one}
 use mathlib.Core.Path.{_≡_, refl, sym, ap, _∙_}
 use mathlib.Core.List.{List, [], _∷_, _++_}
 use lib.ListN.{length, take, drop, getD, set, length-drop}
-use lib.Seq.{sets, take-suc, length-take-le, getD-set-other, getD-drop, getD-take}
+use lib.Seq.{sets, take-suc, length-take-le, getD-set-other, getD-drop, drop-length, drop-cons}
 
 pub sets-join : (s : List ℕ) (i : ℕ) (p q : List ℕ) → sets s i (p ++ q) ≡ sets (sets s i p) (i + length p) q
 sets-join s i [] q = let z : i + 0 ≡ i = omega arith in rw z
@@ -34,11 +34,19 @@ moved-more s buf done i o e =
     ap (λ (x : List ℕ). getD x (done + i) 0) e ∙ getD-behind s 0 (take i (drop done s)) (done + i) (omega arith) ∙ sym (getD-drop done s i 0) in
     ap (set buf i) v ∙ (rw z at (sets-more s buf 0 (drop done s) i l e))
 
--- a record's bytes, one more
-pub kept-more : (s out : List ℕ) (w : ℕ) (buf : List ℕ) (at i : ℕ) → i < 16 → at + 16 ≤ length buf → out ≡ sets s w (take i (take 16 (drop at buf)))
-    → set out (w + i) (getD buf (at + i) 0) ≡ sets s w (take (i + 1) (take 16 (drop at buf)))
-kept-more s out w buf at i h o e =
-    let l : 16 ≤ length (drop at buf) = rw (length-drop at buf) (omega arith) in
-    let n : length (take 16 (drop at buf)) ≡ 16 = length-take-le 16 (drop at buf) l in
-    let v : getD buf (at + i) 0 ≡ getD (take 16 (drop at buf)) i 0 = sym (getD-take 16 (drop at buf) i 0 h ∙ getD-drop at buf i 0) in
-    ap (set out (w + i)) v ∙ sets-more s out w (take 16 (drop at buf)) i (omega arith) e
+-- a list, entry by entry
+abbrev spelt : List ℕ → ℕ → ℕ → List ℕ
+spelt l n zero = []
+spelt l n (suc k) = getD l n 0 ∷ spelt l (suc n) k
+
+pub spelled : (l : List ℕ) (k n : ℕ) → n + k ≡ length l → drop n l ≡ spelt l n k
+spelled l zero n e = let z : length l ≡ n = omega arith in ap (λ (m : ℕ). drop m l) (sym z) ∙ drop-length l
+spelled l (suc k) n e = drop-cons l n 0 (omega arith) ∙ ap (λ (m : List ℕ). getD l n 0 ∷ m) (spelled l k (suc n) (omega arith))
+
+-- the 16 bytes at an index, as a part of the tape
+pub part : (s : List ℕ) (at : ℕ) → at + 16 ≤ length s
+    → (take (at + 16 - at) (drop at s) ≡ take 16 (drop at s)) × (length (take (at + 16 - at) (drop at s)) ≡ 16)
+part s at o =
+    let n : at + 16 - at ≡ 16 = omega arith in
+    let l : 16 ≤ length (drop at s) = rw (length-drop at s) (omega arith) in
+    rw n (refl, length-take-le 16 (drop at s) l)

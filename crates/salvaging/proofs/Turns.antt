@@ -1,6 +1,6 @@
--- Laws of the loops' turns: a turn that keeps the record at an index, a turn that drops the byte there, and the end. What a pass comes to is the same before and
--- after a turn. Assumes nothing.
-use Prim.Native.Nat.{ℕ, zero, suc, _+_, _-_, _*_, _≤_, _<_}
+-- Laws of the loops' turns: a turn that keeps the record at an index, a turn that drops the byte there, and the end. What a pass comes to is the same before
+-- and after a turn. Assumes nothing.
+use Prim.Native.Nat.{ℕ, zero, suc, _+_, _-_, _≤_, _<_}
 use native.Mathlib.Omega.{arith}
 use native.Mathlib.Numerals.{add-one}
 use mathlib.Core.Path.{_≡_, refl, sym, ap, _∙_}
@@ -10,7 +10,6 @@ use borrow.Author.Tests.{le-leb}
 use lib.ListN.{length, take, drop, getD, replicate, length-append, length-drop}
 use lib.Seq.{sets, length-take-le, drop-drop, drop-cons}
 use Rattle.record.specs.Form.{isCommand}
-use Rattle.salvage_marks.specs.declared.Stretch.{Stretch}
 use Rattle.salvage_marks.specs.Torn.{makes, pick, closed, cells}
 use Rattle.salvage_marks.specs.Pieces.{ahead, ended, begun}
 use Rattle.salvage_marks.proofs.Marks.{pick-trues, closed-one, closed-no, closed-join, cells-join}

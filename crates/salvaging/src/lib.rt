@@ -26,11 +26,11 @@ const LAST_PLACE: u64 = 18446744073709551615;
 
 // What a pass over bytes comes to: how many are decided, where the open stretch begins, the bytes kept and the numbers
 // listed.
-pub struct Passed {
-    pub done: usize,
-    pub from: usize,
-    pub kept: usize,
-    pub cells: usize,
+struct Passed {
+    done: usize,
+    from: usize,
+    kept: usize,
+    cells: usize,
 }
 
 // ---- One record, one stretch
@@ -58,14 +58,42 @@ fn head(buf: &[u8], place: usize) -> usize
     0
 }
 
+// 16 bytes, all read before any is written: so that they are copied as one, where the compiler cannot see that the
+// two tapes lie apart.
+fn sixteen(p: &[u8]) -> [u8; 16]
+    requires { ⌜ length (now p) ≡ 16 ⌝ }
+    ensures { λ r. ⌜ r ≡ now (p .entry) ⌝ }
+{
+    [
+        p[0],
+        p[1],
+        p[2],
+        p[3],
+        p[4],
+        p[5],
+        p[6],
+        p[7],
+        p[8],
+        p[9],
+        p[10],
+        p[11],
+        p[12],
+        p[13],
+        p[14],
+        p[15],
+    ]
+}
+
 // The record at an index goes to the new tape.
 fn keep(out: &mut [u8], w: usize, buf: &[u8], at: usize)
     requires { ⌜ (w + 16 ≤ length (now out)) × (at + 16 ≤ length (now buf)) ⌝ }
     ensures { λ _. ⌜ now (out .exit) ≡ sets (now (out .entry)) w (take 16 (drop at (now (buf .entry)))) ⌝ }
 {
+    let end = at + RECORD_BYTES;
+    let p = sixteen(&buf[at..end]);
     let mut i: usize = 0;
     while i < RECORD_BYTES {
-        out[w + i] = buf[at + i];
+        out[w + i] = p[i];
         i += 1;
     }
 }
@@ -122,7 +150,7 @@ fn measure(buf: &[u8], place: usize, begin: usize, size: usize) -> Passed
             at = end;
             from = place + end;
         } else {
-            at += 1;
+            at += 1; // no record begins here
         }
     }
     Passed {
@@ -167,7 +195,7 @@ fn pass(
             at = end;
             from = place + end;
         } else {
-            at += 1;
+            at += 1; // this byte is dropped
         }
     }
     Passed {

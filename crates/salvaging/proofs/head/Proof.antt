@@ -1,10 +1,7 @@
 -- `head` meets its contract: each exit is the definition's case of the tests that led there. Assumes nothing.
-use mathlib.Core.Path.{_≡_, sym, ap, _∙_}
-use Prim.Native.Nat.{_≤_}
+use mathlib.Core.Path.{sym, _∙_}
 use native.Mathlib.Omega.{arith}
-use lib.ListN.{length}
 use borrow.Author.Needs.{needs}
-use borrow.Author.Tests.{not-false}
 use Rattle.salvaging.proofs.Starts.{head-later, head-short, head-there, head-none}
 use Rattle.salvaging.proofs.head.Statement.{statement}
 use Rattle.salvaging.proofs.head.Tie as tie

@@ -1,6 +1,5 @@
 -- `holds` meets its contract: what fits for sure is not measured. Assumes nothing.
-use Prim.Native.Nat.{_/_, _≤_}
-use mathlib.Core.Path.{_≡_, refl}
+use Prim.Native.Nat.{_/_}
 use borrow.Author.Needs.{needs}
 use borrow.Author.Tests.{leb-true}
 use lib.Dec.{leb}

@@ -1,33 +1,51 @@
 -- `keep` meets its contract. The loop's invariant: i bytes of the record are stored. Assumes nothing.
-use Prim.Native.Nat.{ℕ, _+_, _-_, _≤_, _<_}
+use Prim.Native.Nat.{ℕ, _+_, _-_, _≤_}
 use mathlib.Core.Path.{_≡_, refl, ap, _∙_}
 use mathlib.Core.List.{List}
 use native.Mathlib.Omega.{arith}
-use lib.ListN.{length, take, drop, length-set, length-take}
+use lib.ListN.{length, take, drop, length-set}
 use lib.Seq.{sets, take-all}
 use borrow.Author.Needs.{needs}
-use Rattle.salvaging.proofs.Stores.{kept-more}
+use Rattle.salvaging.proofs.Stores.{part, sets-more}
 use Rattle.salvaging.proofs.keep.Statement.{statement}
 use Rattle.salvaging.proofs.keep.Tie as tie
 
 abbrev Inv-loop : tie.InvT-loop
-Inv-loop out₀ w buf at i₀ out i =
-    (i ≤ 16) × (w + 16 ≤ length out₀) × (at + 16 ≤ length buf) × (length out ≡ length out₀) × (out ≡ sets out₀ w (take i (take 16 (drop at buf))))
+Inv-loop out₀ w buf at end p i₀ out i =
+    (i ≤ 16) × (w + 16 ≤ length out₀) × (length p ≡ 16) × (p ≡ take 16 (drop at buf)) × (length out ≡ length out₀) × (out ≡ sets out₀ w (take i p))
 
 abbrev μ-loop : tie.MeasureT-loop
-μ-loop out₀ w buf at i₀ out i = 16 - i
+μ-loop out₀ w buf at end p i₀ out i = 16 - i
+
+add-end : tie.Need-add-end Inv-loop μ-loop
+add-end c = search needs
+
+sub-sixteen : tie.Need-sub-sixteen Inv-loop μ-loop
+sub-sixteen c = search needs
+
+part-sixteen-start : tie.Need-part-sixteen-start Inv-loop μ-loop
+part-sixteen-start c = search needs
+
+part-sixteen-end : tie.Need-part-sixteen-end Inv-loop μ-loop
+part-sixteen-end c = search needs
+
+sixteen-requires : tie.Need-sixteen-requires Inv-loop μ-loop
+sixteen-requires c κs =
+    let a = c .before .before .before .args in
+    part (a .buf .now) (a .at) (omega arith) .1
 
 loop-holds : tie.Need-loop-holds Inv-loop μ-loop
-loop-holds c = (search needs, omega arith, omega arith, refl, refl)
+loop-holds c =
+    let a = c .before .before .before .before .args in
+    let q = part (a .buf .now) (a .at) (omega arith) in
+    let e = c .sixteen .ensures in
+    (search needs, omega arith, ap (λ (x : List ℕ). length x) e ∙ q .1, e ∙ q .0, refl, refl)
+
+array-read-out : tie.Need-array-read-out Inv-loop μ-loop
+array-read-out c = search needs
 
 add-out : tie.Need-add-out Inv-loop μ-loop
 add-out c = search needs
-
-shared-slice-read-out : tie.Need-shared-slice-read-out Inv-loop μ-loop
-shared-slice-read-out c = search needs
-
-add-out-2 : tie.Need-add-out-2 Inv-loop μ-loop
-add-out-2 c = search needs
 
 slice-write-out : tie.Need-slice-write-out Inv-loop μ-loop
 slice-write-out c = search needs
@@ -40,13 +58,15 @@ loop-less c = search needs
 
 loop-again : tie.Need-loop-again Inv-loop μ-loop
 loop-again c =
-    let l = c .before .before .loop in
-    let a = c .before .before .before .args in (
+    let l = c .before .loop in
+    let p = c .before .before .sixteen .result in
+    let a = c .before .before .before .before .before .before .args in (
       omega arith,
       l .inv .1,
       l .inv .2,
-      simp length-set (l .inv .3),
-      kept-more (a .out .now) (l .out) (a .w) (a .buf .now) (a .at) (l .i) (omega arith) (omega arith) (l .inv .4),
+      l .inv .3,
+      simp length-set (l .inv .4),
+      sets-more (a .out .now) (l .out) (a .w) p (l .i) (omega arith) (l .inv .5),
     )
 
 same-length : tie.Need-same-length Inv-loop μ-loop
@@ -55,9 +75,9 @@ same-length c = search needs
 returns : tie.Need-returns Inv-loop μ-loop
 returns c =
     let l = c .before .loop in
-    let a = c .before .before .args in
-    let p : List ℕ = take 16 (drop (a .at) (a .buf .now)) in
-    l .inv .4 ∙ ap (sets (a .out .now) (a .w)) (take-all (l .i) p (omega (arith, length-take 16 (drop (a .at) (a .buf .now)))))
+    let p = c .before .before .sixteen .result in
+    let a = c .before .before .before .before .before .before .args in
+    l .inv .5 ∙ ap (sets (a .out .now) (a .w)) (take-all (l .i) p (omega arith) ∙ l .inv .3)
 
 pub keep-spec : {M : Type 1} → statement M
 keep-spec =
@@ -65,10 +85,14 @@ keep-spec =
     (tie.spec
     Inv-loop
     μ-loop
+    add-end
+    sub-sixteen
+    part-sixteen-start
+    part-sixteen-end
+    sixteen-requires
     loop-holds
+    array-read-out
     add-out
-    shared-slice-read-out
-    add-out-2
     slice-write-out
     add-i
     loop-less

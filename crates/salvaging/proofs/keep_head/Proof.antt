@@ -1,5 +1,5 @@
 -- `keep_head` meets its contract: all 16 bytes, or none. Assumes nothing.
-use mathlib.Core.Path.{_≡_, refl}
+use mathlib.Core.Path.{_≡_}
 use native.Mathlib.Omega.{arith}
 use borrow.Author.Needs.{needs}
 use Rattle.salvaging.proofs.keep_head.Statement.{statement}

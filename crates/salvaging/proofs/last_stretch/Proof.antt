@@ -1,10 +1,8 @@
 -- `last_stretch` meets its contract: a stretch begins at the place or before it, and ends there or behind it. Assumes nothing.
 use Prim.Native.Nat.{ℕ, _+_, _≤_}
-use mathlib.Core.Path.{_≡_, refl}
 use mathlib.Core.Bool.{Bool, true, false, cond}
 use native.Mathlib.Omega.{arith}
 use borrow.Author.Needs.{needs}
-use borrow.Author.Tests.{ltb-false}
 use lib.Dec.{ltb}
 use Rattle.salvage_marks.specs.Pieces.{least, lastPlace, lastOf}
 use Rattle.salvage_marks.proofs.Chained.{least-below}

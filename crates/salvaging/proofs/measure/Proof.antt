@@ -1,12 +1,12 @@
 -- `measure` meets its contract. The loop's invariant: what is counted and what is to come make what the pass comes to. Assumes nothing.
-use Prim.Native.Nat.{ℕ, _+_, _-_, _*_, _≤_, _<_, _^_}
+use Prim.Native.Nat.{_+_, _-_, _*_, _≤_, _<_, _^_}
 use mathlib.Core.Path.{_≡_, refl, sym, _∙_}
 use native.Mathlib.Omega.{arith}
 use lib.ListN.{length}
 use borrow.Author.Needs.{needs}
 use Rattle.salvaging.specs.Walk.{passed-on}
 use Rattle.salvaging.proofs.Turns.{cells-two, keep-passed, drop-passed, stop-passed}
-use Rattle.salvaging.proofs.Starts.{Starts, starts, start-passed}
+use Rattle.salvaging.proofs.Starts.{starts, start-passed}
 use Rattle.salvaging.proofs.measure.Statement.{statement}
 use Rattle.salvaging.proofs.measure.Tie as tie
 
@@ -80,7 +80,8 @@ loop-again c =
       l .inv .1,
       omega arith,
       omega (arith, c .numbers .ensures),
-      keep-passed (a .buf .now) (a .place) (l .at) (l .from) (omega arith) m (l .kept) (l .cells) (l .cells + c .numbers .result) (rw (c .numbers .ensures)) ∙ l .inv .4,
+      keep-passed (a .buf .now) (a .place) (l .at) (l .from) (omega arith) m (l .kept) (l .cells) (l .cells + c .numbers .result) (rw (c .numbers .ensures))
+          ∙ l .inv .4,
     )
 
 add-at : tie.Need-add-at Inv-loop μ-loop

@@ -1,6 +1,6 @@
--- `pass` meets its contract. The loop's invariant: what is counted, written and listed, and what is to come, make what the pass comes to. That there is room for
--- each record and stretch follows: it is part of what is to come. Assumes nothing.
-use Prim.Native.Nat.{ℕ, _+_, _-_, _≤_, _<_, _^_}
+-- `pass` meets its contract. The loop's invariant: what is counted, written and listed, and what is to come, make what the pass comes to. That there is room
+-- for each record and stretch follows: it is part of what is to come. Assumes nothing.
+use Prim.Native.Nat.{ℕ, _+_, _-_, _≤_}
 use mathlib.Core.Path.{_≡_, refl, sym, ap, _∙_}
 use mathlib.Core.List.{List, []}
 use native.Mathlib.Omega.{arith}
@@ -10,8 +10,8 @@ use borrow.Author.Needs.{needs}
 use Rattle.salvage_marks.specs.Torn.{closed, cells}
 use Rattle.salvaging.specs.declared.Passed.{Passed}
 use Rattle.salvaging.specs.Walk.{passed-on}
-use Rattle.salvaging.proofs.Turns.{numbers-on, bytes-on, keep-passed, keep-out, keep-list, keep-room, keep-list-room, drop-passed, drop-bytes, drop-numbers}
-use Rattle.salvaging.proofs.Turns.{stop-passed, stop-bytes, stop-numbers}
+use Rattle.salvaging.proofs.Turns.{numbers-on, bytes-on, keep-passed, keep-out, keep-list, keep-room, keep-list-room, drop-passed}
+use Rattle.salvaging.proofs.Turns.{drop-bytes, drop-numbers, stop-passed, stop-bytes, stop-numbers}
 use Rattle.salvaging.proofs.pass.Statement.{statement}
 use Rattle.salvaging.proofs.pass.Tie as tie
 

@@ -1,6 +1,6 @@
 -- `put` meets its contract: the header, and behind it the pass. Assumes nothing.
-use Prim.Native.Nat.{ℕ, _+_, _≤_}
-use mathlib.Core.Path.{_≡_, refl, sym, ap, _∙_}
+use Prim.Native.Nat.{ℕ}
+use mathlib.Core.Path.{sym, ap, _∙_}
 use mathlib.Core.List.{List}
 use native.Mathlib.Omega.{arith}
 use lib.ListN.{length, take, drop}
@@ -10,7 +10,7 @@ use Rattle.salvage_marks.specs.declared.Stretch.{Stretch}
 use Rattle.salvage_marks.specs.Torn.{pick, cells}
 use Rattle.salvaging.specs.declared.Passed.{Passed}
 use Rattle.salvaging.specs.Walk.{to-go}
-use Rattle.salvaging.proofs.Starts.{Starts, starts, start-passed, start-out}
+use Rattle.salvaging.proofs.Starts.{starts, start-passed, start-out}
 use Rattle.salvaging.proofs.put.Statement.{statement}
 use Rattle.salvaging.proofs.put.Tie as tie
 

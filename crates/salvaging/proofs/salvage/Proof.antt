@@ -1,6 +1,6 @@
 -- `salvage` meets its contract: what is measured decides, and a whole tape is one piece and its last stretch. Assumes nothing.
-use Prim.Native.Nat.{ℕ, _+_, _≤_}
-use mathlib.Core.Path.{_≡_, refl, sym, ap, _∙_}
+use Prim.Native.Nat.{ℕ}
+use mathlib.Core.Path.{_≡_, ap, _∙_}
 use mathlib.Core.List.{List, []}
 use native.Mathlib.Omega.{arith}
 use lib.ListN.{length}
@@ -77,7 +77,8 @@ list-one-requires c κs =
     let s = a .tape .now in
     let l = n .numbers .ensures ∙ last-same s (m .measure .ensures) in
     let k = ap (λ (x : List ℕ). length x) (r .put .ensures .1 .1) ∙ length-sets (a .list .now) 0 (cells (ended 0 0 (marked-at 0 s))) in
-    omega (arith, k, l, ap (λ (x : Passed). x .cells) (m .measure .ensures), ap (λ (x : Passed). x .cells) (r .put .ensures .0), last-same s (r .put .ensures .0))
+    let p = r .put .ensures .0 in
+    omega (arith, k, l, ap (λ (x : Passed). x .cells) (m .measure .ensures), ap (λ (x : Passed). x .cells) p, last-same s p)
 
 same-length : tie.Need-same-length
 same-length c = search needs
@@ -99,7 +100,8 @@ returns-3 c =
     let f = all-fits s (length (a .out .now)) (length (a .list .now))
     (omega (arith, ap (λ (x : Passed). x .kept) (m .measure .ensures), t .before .before .if1 .left))
     (omega (arith, ap (λ (x : Passed). x .cells) (m .measure .ensures), l, t .if2 .left)) in
-    salvaged-so s (a .out .now) (a .list .now) (d .head .result) (o .list-one .result) (r .put .result) f (starts 0 0 s (omega arith) (d .head .result) (d .head .ensures))
+    let b = starts 0 0 s (omega arith) (d .head .result) (d .head .ensures) in
+    salvaged-so s (a .out .now) (a .list .now) (d .head .result) (o .list-one .result) (r .put .result) f b
     (r .put .ensures .0) (r .put .ensures .1 .0) (r .put .ensures .1 .1) (o .list-one .ensures .0) (o .list-one .ensures .1)
 
 pub salvage-spec : {M : Type 1} → statement M
