@@ -15,6 +15,7 @@ use Rattle.programs_flow.proofs.has_failed
 use Rattle.programs_flow.proofs.brought
 use Rattle.programs_flow.proofs.status
 use Rattle.programs_flow.proofs.told
+use Rattle.programs_flow.proofs.refused
 use Rattle.programs_flow.proofs.checked
 use Rattle.programs_flow.proofs.has_ended
 use Rattle.programs_flow.proofs.not_read
@@ -41,6 +42,9 @@ module _ {M : Type 1} (𝓤 : URA M) (H : Heap 𝓤) (A : Atoms 𝓤) (mem : Mem
 
   pub told-single : OneAnswer 𝓤 told.ended (told.clauses 𝓤 H A mem run)
   told-single κs a g r s d e = one 𝓤 _ _ _
+
+  pub refused-single : OneAnswer 𝓤 refused.ended (refused.clauses 𝓤 H A mem run)
+  refused-single κs a g r s d e = one 𝓤 _ _ _
 
   pub not-read-single : OneAnswer 𝓤 not_read.ended (not_read.clauses 𝓤 H A mem run)
   not-read-single κs a g r s d e = one 𝓤 _ _ _

@@ -91,6 +91,14 @@ pub fn told(status: u8, name: &[u8], what: &[u8]) -> u8
     status
 }
 
+// A status, and why, where nothing of the system failed: a line as it stands.
+pub fn refused(status: u8, line: &[u8]) -> u8
+    ensures { λ r. ⌜ r ≡ status ⌝ }
+{
+    io::write_all(libc::STDERR_FILENO, line);
+    status
+}
+
 // What was to be read is not there, or cannot be used.
 pub fn not_read(w: Went, name: &[u8], what: &[u8]) -> Went
     ensures { λ r. ⌜ r ≡ flow.unread w ⌝ }

@@ -13,7 +13,7 @@ use Rattle.io.specs.Counts.{Counts}
 use Rattle.decimal.specs.Buffer.{contents-after, place-after}
 use Rattle.programs_flow.specs.declared.Went.{Went}
 use Rattle.programs_flow.specs.Flow.{where-done}
-use Rattle.programs_salvage.specs.Work.{All-taken, Salvaged, Done-refused-failed}
+use Rattle.programs_salvage.specs.Work.{All-taken, Salvaged, Named-or-failed, Done-refused-failed}
 
 pub still : (b : Bool) (w r : Went) → r ≡ where-done b w → Salvaged w → Salvaged r
 unfolding where-done
@@ -26,6 +26,10 @@ failed-so e = inr (inr e)
 
 pub refused-so : {r : ℕ} → r ≡ 2 → Done-refused-failed r
 refused-so e = inr (inl e)
+
+pub named-so : (w : Went) {r : ℕ} → Named-or-failed w r → Done-refused-failed r
+named-so w (inl (e, a)) = inl e
+named-so w (inr e) = failed-so e
 
 pub taken : (b : Bool) (w : Went) → b ≡ eqb (w .kind) 1 → b ≡ true → Salvaged w → All-taken w
 taken b w e t (inl a) = a

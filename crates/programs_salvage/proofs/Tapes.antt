@@ -14,7 +14,8 @@ use Rattle.salvage_marks.specs.declared.Torn.{Torn}
 use Rattle.salvage_marks.specs.declared.Fed.{Fed}
 use Rattle.salvage_marks.specs.declared.Stretch.{Stretch}
 use Rattle.salvage_marks.specs.Torn.{kept, dropped, found, headed, cells, total}
-use Rattle.salvage_marks.specs.Pieces.{lastPlace, decided, written, listed, after, held, fedFits, fedOf, FedTo, lastOf, Chain, joined}
+use Rattle.salvage_marks.specs.Pieces.{lastPlace, decided, written, listed, after, held, fedFits, fedOf, FedTo, lastOf, Chain}
+use Rattle.rules.specs.Line.{joined}
 use Rattle.salvage_marks.specs.Pieces.Chain.{end, feed}
 use Rattle.salvage_marks.proofs.Ahead.{ahead-few}
 use Rattle.salvage_marks.proofs.Whole.{kept-long, each-byte}

@@ -4,7 +4,9 @@
 --
 -- These wrong programs meet all of it, and only runs refuse them (host/io.py, the stored cases): those that
 -- programs_flow/specs/Loops names; one that writes the kept records to standard output and the list to the new tape;
--- one that syncs another file, or none; one that leaves a file behind where it fails, or names another one.
+-- one that syncs another file, or none; one that leaves a file behind where it fails, names another one or none, or
+-- replaces one that is there; one that opens the old tape for writing; one that answers 2 or 3 though nothing failed;
+-- one that tells its progress where there is no terminal, or never.
 use Prim.Native.Nat.{ℕ, _+_, _-_, _/_, _≤_}
 use mathlib.Core.Path.{_≡_}
 use mathlib.Core.List.{List, [], _++_}
@@ -15,7 +17,8 @@ use Rattle.programs_flow.specs.Loops.{After, Text, None-empty}
 use Rattle.salvage_marks.specs.declared.Torn.{Torn}
 use Rattle.salvage_marks.specs.declared.Stretch.{Stretch}
 use Rattle.salvage_marks.specs.Torn.{kept, dropped, found, headed, cells, total, closed}
-use Rattle.salvage_marks.specs.Pieces.{at-first, written, listed, after, held, lastOf, joined}
+use Rattle.salvage_marks.specs.Pieces.{at-first, written, listed, after, held, lastOf}
+use Rattle.rules.specs.Line.{joined}
 use Rattle.salvage_text.specs.Lines.{list-text, last-text}
 
 -- ---- pieces
@@ -77,6 +80,10 @@ All-taken went =
 abbrev pub Salvaged : Went → Type 0
 Salvaged went = All-taken went ⊎ (2 ≤ went .kind) ⊎ (went .kind ≡ 0)
 
--- Salvage answers 0 only where all was read and all was taken; else 2, nothing was begun, or 3.
+-- Behind the pieces, where the work stands so: 0 only where all was taken, else 3.
+abbrev pub Named-or-failed : Went → ℕ → Type 0
+Named-or-failed w r = ((r ≡ 0) × All-taken w) ⊎ (r ≡ 3)
+
+-- Salvage answers 0, 2 or 3.
 abbrev pub Done-refused-failed : ℕ → Type 0
-Done-refused-failed r = ((r ≡ 0) × ((w : Went) × All-taken w)) ⊎ (r ≡ 2) ⊎ (r ≡ 3)
+Done-refused-failed r = (r ≡ 0) ⊎ (r ≡ 2) ⊎ (r ≡ 3)

@@ -9,11 +9,12 @@ mod pieces;
 
 ghost use mathlib.Core.Path.{_≡_};
 ghost use Rattle.io.specs.Counts.{Counts};
-ghost use Rattle.programs_salvage.specs.Work.{All-taken, Salvaged, Done-refused-failed};
+ghost use Rattle.programs_salvage.specs.Work.{All-taken, Salvaged, Named-or-failed, Done-refused-failed};
 use programs_flow::Went;
 use programs_flow::checked;
 use programs_flow::has_ended;
 use programs_flow::not_written;
+use programs_flow::refused;
 use programs_flow::told;
 use salvaging::Torn;
 use text_print::put_text;
@@ -110,9 +111,10 @@ fn removed(part: &[u8]) -> u8
     told(3, part, b" could not be removed")
 }
 
+// The new tape gets its name where all was taken, and what was begun is removed where not.
 fn finish(w: Went, new: &[u8], part: &[u8]) -> u8
     requires { ⌜ Salvaged w ⌝ }
-    ensures { λ r. ⌜ Done-refused-failed r ⌝ }
+    ensures { λ r. ⌜ Named-or-failed w r ⌝ }
 {
     if !has_ended(w) {
         return removed(part);
@@ -131,10 +133,9 @@ fn salvage(from: i32, to: i32, old: &[u8], new: &[u8], part: &[u8]) -> u8
 {
     if to < 3 {
         libc::close(to);
-        told(
+        refused(
             3,
-            b"salvage",
-            b" wants standard output and standard error, and one of them is closed",
+            b"salvage wants standard output and standard error, and one of them is closed\n",
         );
         return removed(part);
     }
@@ -166,7 +167,7 @@ fn from_to(old: &[u8], new: &[u8], part: &[u8]) -> u8
 }
 
 // NEW.part: the second word of the command line with .part behind it, and how many bytes that has; 0 where there is no
-// such word, or no room.
+// room for it. (Where there is no such word `run` knows it.)
 fn part_name(name: &mut [u8]) -> usize
     ensures { λ r. ⌜ Counts r (now (name .exit)) ⌝ }
 {
@@ -190,10 +191,9 @@ pub fn run() -> u8
     let m = os::arg(2, &mut new);
     let end = part_name(&mut part);
     if (n == 0) | (m == 0) | (end == 0) {
-        return told(
+        return refused(
             2,
-            b"salvage",
-            b" wants two names, of the old tape and of a new file",
+            b"salvage wants two names, of the old tape and of a new file, each shorter than 4092 bytes\n",
         );
     }
     from_to(&old[..n], &new[..m], &part[..end])

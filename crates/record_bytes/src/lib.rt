@@ -1,5 +1,5 @@
-// The 16 bytes of a record: read, written, and known by their mark. Whether the fields that they hold are a record is
-// crate record's to say.
+// The 16 bytes of a record: read, written, known by their mark, and tested for a header or a command record. Which
+// fields make one is crate record's to say.
 //
 // No public function has a `requires`. What each answer is: crate record, specs/Form.
 ghost use mathlib.Core.Path.{_≡_};

@@ -29,15 +29,11 @@ fn front(s: &[u8], n: usize) {
     }
 }
 
-fn wide(x: u8) -> u64 {
-    x as u64
-}
-
 // 16 bytes to a line.
 fn hex(p: &[u8]) {
     let mut i: usize = 0;
     while i < p.len() {
-        io::print_hex(libc::STDOUT_FILENO, wide(p[i]), 2);
+        io::print_hex(libc::STDOUT_FILENO, numbers::wide(p[i]), 2);
         if i % 16 == 15 {
             text(b"\n");
         }

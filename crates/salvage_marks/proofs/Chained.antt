@@ -14,7 +14,8 @@ use Rattle.salvage_marks.specs.declared.Torn.{Torn}
 use Rattle.salvage_marks.specs.declared.Fed.{Fed}
 use Rattle.salvage_marks.specs.Torn.{marks, pick, closed, stretches, kept-on, dropped-on, kept, dropped, headed, cells}
 use Rattle.salvage_marks.specs.Pieces.{ended, begun, at-first, lastPlace, least, opened, decided, written, listed, after, held}
-use Rattle.salvage_marks.specs.Pieces.{fedFits, fedOf, FedTo, lastOf, Chain, joined}
+use Rattle.salvage_marks.specs.Pieces.{fedFits, fedOf, FedTo, lastOf, Chain}
+use Rattle.rules.specs.Line.{joined}
 use Rattle.salvage_marks.specs.Pieces.Chain.{end, feed}
 use Rattle.salvage_marks.specs.Words.{Front}
 use Rattle.salvage_marks.proofs.Marks.{both-true, cells-join, fronted}

@@ -1,6 +1,7 @@
 pub mod Marks
 pub mod Whole
 pub mod Apart
+pub mod Listed
 pub mod Reader
 pub mod Ahead
 pub mod Damage

@@ -4,10 +4,11 @@ use Prim.Native.Nat.{ℕ, suc, _+_, _*_, _≤_, _<_}
 use native.Mathlib.Omega.{arith}
 use mathlib.Core.Path.{_≡_}
 use mathlib.Core.Logic.{_↔_}
-use mathlib.Core.Bool.{Bool, true, false}
+use mathlib.Core.Bool.{Bool, true, false, not}
 use mathlib.Core.List.{List, [], _∷_, _++_}
 use lib.Dec.{eqb}
 use lib.ListN.{length, drop}
+use Rattle.rules.specs.Line.{joined}
 use Rattle.record.specs.Form.{bytesOf}
 use Rattle.record.specs.Fault.{faultOf}
 use Rattle.record.specs.declared.Record.{Record}
@@ -16,11 +17,12 @@ use Rattle.salvage_marks.specs.declared.Salvaged.{Salvaged}
 use Rattle.salvage_marks.specs.declared.Torn.{Torn}
 use Rattle.salvage_marks.specs.declared.Fed.{Fed}
 use Rattle.salvage_marks.specs.Torn.{kept, dropped, found, headed, cells, total, salvagedOf, SalvagedTo}
-use Rattle.salvage_marks.specs.Pieces.{at-first, lastPlace, written, listed, fedFits, fedOf, FedTo, Chain, joined}
-use Rattle.salvage_marks.specs.Words.{Bytes, Whole, Apart, cut, stands, kept-at, Has, byte-kept, Front, Answered, PieceAnswered}
+use Rattle.salvage_marks.specs.Pieces.{at-first, lastPlace, written, listed, fedFits, fedOf, FedTo, Chain}
+use Rattle.salvage_marks.specs.Words.{Bytes, Whole, Apart, cut, in-stretch, stands, kept-at, Has, byte-kept, Front, Answered, PieceAnswered}
 use Rattle.salvage_marks.specs.Damage.{Gap, torn-at, saved, gaps, Loses-none}
 use Rattle.salvage_marks.proofs.Whole as whole
 use Rattle.salvage_marks.proofs.Apart as places
+use Rattle.salvage_marks.proofs.Listed as lists
 use Rattle.salvage_marks.proofs.Lost as lost
 use Rattle.salvage_marks.proofs.Reader as reader
 use Rattle.salvage_marks.proofs.Damage as damage
@@ -40,13 +42,18 @@ adds-up s = whole.each-byte s
 pub apart : (s : List ℕ) → Apart 0 0 (length s) (dropped s)
 apart s = places.all-apart s
 
+-- A byte of the tape stands in a listed stretch exactly if it is not kept.
+-- Rules out: a stretch with a kept byte in it, and a dropped byte in none; so too a list of other places where the same bytes stand.
+pub listed-exactly : (s : List ℕ) (i : ℕ) → i < length s → in-stretch (dropped s) i ≡ not (byte-kept s i)
+listed-exactly s i o = lists.exactly s i o
+
 -- The listed stretches cut out of the old tape leave the new tape, byte for byte.
--- Rules out: a stretch with a kept byte in it, and a dropped byte in none.
+-- Rules out: a new tape of other bytes than those that are not listed.
 pub cut-out : (s : List ℕ) → cut 0 (dropped s) s ≡ kept s
 cut-out s = places.cut-out s
 
--- The new tape is the kept records' bytes, one record behind another. With `apart` and `cut-out`: what stands between the stretches of the old tape are the
--- kept records, whole, each at the bytes where it was.
+-- The new tape is the kept records' bytes, one record behind another. With `listed-exactly` and `by-records`: what stands between the stretches of the old tape
+-- are the kept records, whole, each at the bytes where it was.
 -- Rules out: a count of records that the new tape does not hold.
 pub new-tape : (s : List ℕ) → Bytes s → kept s ≡ tapeOf (found s)
 new-tape s b = reader.new-tape s b

@@ -127,8 +127,3 @@ pub data Chain : Torn → List ℕ → List (List ℕ) → List ℕ → List ℕ
       (out list out′ list′ : List ℕ) → FedTo t (h ++ p) out list r out′ list′ → r .code ≡ 0
       → Chain (r .torn) (drop (r .done) (h ++ p)) ps w c b
       → Chain t h (p ∷ ps) (take (r .kept) out′ ++ w) (take (r .cells) list′ ++ c) b
-
--- the tape that pieces are of
-abbrev pub joined : List (List ℕ) → List ℕ
-joined [] = []
-joined (p ∷ ps) = p ++ joined ps

@@ -2,9 +2,9 @@
 use Prim.Native.Nat.{ℕ, zero, suc, _+_, _-_, _*_, _%_, _≤_, _<_}
 use mathlib.Core.Path.{_≡_}
 use mathlib.Core.List.{List, [], _∷_, _++_}
-use mathlib.Core.Bool.{Bool, true, false, cond}
+use mathlib.Core.Bool.{Bool, true, false, cond, _&&_, _||_}
 use lib.ListN.{length, take, drop, getD, replicate}
-use lib.Dec.{eqb}
+use lib.Dec.{eqb, leb, ltb}
 use Rattle.salvage_marks.specs.Torn.{makes, marks, found, dropped, headed, cells}
 use Rattle.salvage_marks.specs.Pieces.{lastPlace, decided, written, listed, after}
 use Rattle.salvage_marks.specs.declared.Stretch.{Stretch}
@@ -59,6 +59,11 @@ Has s at i = (kept-at s at ≡ true) × (at ≤ i) × (i < at + 16)
 -- byte i of a tape is kept
 abbrev pub byte-kept : List ℕ → ℕ → Bool
 byte-kept s i = getD (marks true zero s) i false
+
+-- byte i of a tape stands in one of these stretches
+abbrev pub in-stretch : List Stretch → ℕ → Bool
+in-stretch [] i = false
+in-stretch (x ∷ xs) i = leb (x .first) i && ltb i (x .first + x .size) || in-stretch xs i
 
 -- A buffer, old and new: w stands at its front, n numbers, and all behind them is as it was.
 pub record Front (n : ℕ) (w old new : List ℕ) : Type 0 where

@@ -1,9 +1,9 @@
 -- `programs_salvage::finish` meets its contract: the name is given only where all was taken (proofs/Ends). Assumes nothing.
 use borrow.Author.Needs.{needs}
 use mathlib.Core.Path.{refl}
-use mathlib.Core.Logic.{inl}
+use mathlib.Core.Logic.{inl, inr}
 use borrow.Author.Tests.{not-false}
-use Rattle.programs_salvage.proofs.Ends.{taken, failed-so}
+use Rattle.programs_salvage.proofs.Ends.{taken}
 use Rattle.programs_salvage.proofs.finish.Statement.{statement}
 use Rattle.programs_salvage.proofs.finish.Tie as tie
 
@@ -14,7 +14,7 @@ removed-requires : tie.Need-removed-requires
 removed-requires c κs = search needs
 
 returns : tie.Need-returns
-returns c = failed-so (c .removed .ensures)
+returns c = inr (c .removed .ensures)
 
 give-name-requires : tie.Need-give-name-requires
 give-name-requires c κs =
@@ -28,7 +28,7 @@ removed-requires-2 : tie.Need-removed-requires-2
 removed-requires-2 c κs = search needs
 
 returns-2 : tie.Need-returns-2
-returns-2 c = failed-so (c .removed2 .ensures)
+returns-2 c = inr (c .removed2 .ensures)
 
 sync-folder-requires : tie.Need-sync-folder-requires
 sync-folder-requires c κs = search needs
@@ -38,7 +38,7 @@ returns-3 c =
     let m = c .before .before .before .before in
     let e = m .before .has-ended in
     let s = m .before .before .before .before in
-    inl (refl, (s .args .w, taken (e .result) (s .args .w) (e .ensures) (not-false (e .result) (m .if1 .left)) (s .pre)))
+    inl (refl, taken (e .result) (s .args .w) (e .ensures) (not-false (e .result) (m .if1 .left)) (s .pre))
 
 pub finish-spec : {M : Type 1} → statement M
 finish-spec =

@@ -31,17 +31,14 @@ slice-aggregate-part-name c = search needs
 part-name-requires : tie.Need-part-name-requires
 part-name-requires c κs = search needs
 
-slice-aggregate-told : tie.Need-slice-aggregate-told
-slice-aggregate-told c = search needs
+slice-aggregate-refused : tie.Need-slice-aggregate-refused
+slice-aggregate-refused c = search needs
 
-slice-aggregate-told-2 : tie.Need-slice-aggregate-told-2
-slice-aggregate-told-2 c = search needs
-
-told-requires : tie.Need-told-requires
-told-requires c κs = search needs
+refused-requires : tie.Need-refused-requires
+refused-requires c κs = search needs
 
 returns : tie.Need-returns
-returns c = refused-so (c .told .ensures)
+returns c = refused-so (c .refused .ensures)
 
 array-share-prefix-old : tie.Need-array-share-prefix-old
 array-share-prefix-old c = search needs
@@ -80,9 +77,8 @@ run-spec =
     arg-requires-2
     slice-aggregate-part-name
     part-name-requires
-    slice-aggregate-told
-    slice-aggregate-told-2
-    told-requires
+    slice-aggregate-refused
+    refused-requires
     returns
     array-share-prefix-old
     slice-aggregate-from-to
