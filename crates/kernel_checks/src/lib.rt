@@ -1,7 +1,7 @@
 // A command: its kind, what Range asks of its operands, and the number of the first check that refuses it. What the
 // checks look at is lent to be read, or goes by value, and every command gets a number, whatever the tables hold.
 ghost use mathlib.Core.Path.{_≡_};
-ghost use Rattle.rules.specs.Kinds.{kind};
+ghost use Rattle.rules.specs.Kinds.{kind, fails};
 ghost use mathlib.Core.Bool.{cond};
 ghost use Rattle.rules.specs.Refusals.{fits, barrier, unused, formed-as};
 ghost use Rattle.kernel_checks.specs.Shown.{to-rules};
@@ -9,6 +9,7 @@ pub use rules::End;
 use rules::FOR_ENTRY;
 use rules::FOR_OPEN;
 pub use rules::Kind;
+pub use rules::Whose;
 
 mod refusals;
 
@@ -29,6 +30,13 @@ pub struct Command {
     pub value: u64,
 }
 
+// The end of a body that is held in that way, which serves who waits or does not, and sets an exception or none.
+fn ended(way: u8, serves: bool, whose: Whose) -> Kind
+    ensures { λ r. ⌜ r ≡ fails way serves whose ⌝ }
+{
+    Kind::Ending(End { way, serves, whose })
+}
+
 impl Command {
     // The kind of its op.
     pub fn kind(self) -> Kind
@@ -43,19 +51,14 @@ impl Command {
             5 => Kind::Waking,
             6 => Kind::Advancing,
             7 => Kind::Opening,
-            8 => Kind::Ending(End {
-                way: FOR_OPEN,
-                serves: true,
-            }),
-            9 => Kind::Ending(End {
-                way: FOR_OPEN,
-                serves: false,
-            }),
+            8 => ended(FOR_OPEN, true, Whose::Nobody),
+            9 => ended(FOR_OPEN, false, Whose::Nobody),
             10 => Kind::Entering,
-            11 => Kind::Ending(End {
-                way: FOR_ENTRY,
-                serves: true,
-            }),
+            11 => ended(FOR_ENTRY, true, Whose::Nobody),
+            12 => ended(FOR_OPEN, true, Whose::Runner),
+            13 => ended(FOR_OPEN, false, Whose::Runner),
+            14 => ended(FOR_ENTRY, true, Whose::Runner),
+            15 => ended(FOR_OPEN, true, Whose::Released),
             _ => Kind::NoKind,
         }
     }

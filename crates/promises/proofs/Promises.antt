@@ -25,7 +25,7 @@ use Rattle.kernel.proofs.Written.{stands, encode-sound, step-on, step-sound, re
 use Rattle.promises.specs.Words.{freshOf, runOf, momentsOf, wokeBy, aWake, DueIn}
 use Rattle.promises.specs.Promises.{FreshIsSound, StepKeepsSound, RunIsSound, RefusedChangesNothing, UnsoundComesBack}
 use Rattle.promises.specs.Promises.{KeepsItsTurn, ThenReleased, WakesPromise, WakesPromiseKept, WakesPromiseSound, WakesPromiseSoundKept}
-use Rattle.promises.specs.Promises.{WakesLeftSays, NoneLeftSays, SeenFrom, WakesLeftSeen, ReleasedByThree, OpenServes, ShutServesNobody}
+use Rattle.promises.specs.Promises.{WakesLeftSays, NoneLeftSays, SeenFrom, WakesLeftSeen, ReleasedByThese, OpenServes, ShutServesNobody}
 use Rattle.promises.specs.Promises.{ReleasePromise, OneLowerTask, IdleDoesNotRun}
 use Rattle.promises.proofs.Tied.{told, run-tie, answers-tie, run-from-fresh, running-tie, left-tie, due-at, due-in}
 use Rattle.promises.proofs.Tied.{woke-tie, wakes-tie, all-moments, moments-all, all-told}
@@ -158,10 +158,10 @@ lower-on n s t low object f after k lt =
     let held = moments-all (λ x. at (x .held) low ≡ object) (λ x. last-opened x low ≡ object) (λ m sm h. held-tie m low ∙ h) after n s (w .2) in
     (r ∙ w .0, w .1, held)
 
-pub released-by-three : ReleasedByThree
+pub released-by-these : ReleasedByThese
 unfolding answer
-released-by-three before c =
-    rw (run-from-fresh before, step-on (behind before) (behind-sound before) (to-rules c)) (λ z. rules.released-by-three (map to-rules before) (to-rules c) z)
+released-by-these before c =
+    rw (run-from-fresh before, step-on (behind before) (behind-sound before) (to-rules c)) (λ z. rules.released-by-these (map to-rules before) (to-rules c) z)
 
 pub open-serves : OpenServes
 unfolding answer

@@ -4,12 +4,12 @@
 -- state behind any commands whatever, unknown ops and bad operands among them.
 use Prim.Native.Nat.{ℕ, suc, _-_, _≤_, _<_}
 use mathlib.Core.Path.{_≡_}
-use mathlib.Core.Logic.{_≢_, _↔_, _⊎_}
+use mathlib.Core.Logic.{_≢_, _↔_}
 use mathlib.Core.Bool.{true, false}
 use mathlib.Core.List.{List}
 use lib.ListN.{replicate}
 use Rattle.rules.specs.Line.{at}
-use Rattle.rules.proofs.Words.{All}
+use Rattle.rules.proofs.Words.{All, Among, serving-ops, releasing-ops}
 use Rattle.kernel.specs.declared.Kernel.{Kernel}
 use Rattle.kernel_checks.specs.declared.Command.{Command}
 use Rattle.kernel.specs.Public.{isSound, report, shape, stepped, runningOf, leftOf}
@@ -96,31 +96,31 @@ abbrev pub WakesLeftSeen : Type 0
 WakesLeftSeen = (k : Kernel) (t r : ℕ) → isSound k ≡ true → SeenFrom k t r
 
 -- ## Who releases, and whom
--- An answer releases a task only for a Wake, a closep or a done. Of the last two, when accepted: with barrier 1 the
--- task that waits on the object (0: none does), and nobody waits there any more; with barrier 0 nobody, and who waits
--- waits on.
+-- An answer releases a task only for a Wake, a closep or a done, or one of these two by an exception. Of the ends of a
+-- body that have a barrier, when accepted: with barrier 1 the task that waits on the object (0: none does), and nobody
+-- waits there any more; with barrier 0 nobody, and who waits waits on.
 -- Rules out: an entry's end that passes the waiter over, one that releases behind a shut barrier, a waiter that is
 -- named and not let go.
 -- Leaves: where the released task goes (the contract of the step), and when it runs (the promise on releases).
-abbrev pub ReleasedByThree : Type 0
-ReleasedByThree =
+abbrev pub ReleasedByThese : Type 0
+ReleasedByThese =
     (before : List Command) (c : Command) → let k = runOf freshOf before in
-    stepped k c .answer .released .0 ≢ 0 → (c .op ≡ 5) ⊎ (c .op ≡ 8) ⊎ (c .op ≡ 11)
+    stepped k c .answer .released .0 ≢ 0 → Among releasing-ops (c .op)
 
 abbrev pub OpenServes : Type 0
 OpenServes =
     (before : List Command) (c : Command) → let k = runOf freshOf before in
-    stepped k c .answer .code ≡ 0 → (c .op ≡ 8) ⊎ (c .op ≡ 11) → c .b ≡ 1
+    stepped k c .answer .code ≡ 0 → Among serving-ops (c .op) → c .b ≡ 1
     → (stepped k c .answer .released .0 ≡ at (k .waiter) (c .a)) × (at (stepped k c .next .waiter) (c .a) ≡ 0)
 
 abbrev pub ShutServesNobody : Type 0
 ShutServesNobody =
     (before : List Command) (c : Command) → let k = runOf freshOf before in
-    stepped k c .answer .code ≡ 0 → (c .op ≡ 8) ⊎ (c .op ≡ 11) → c .b ≡ 0
+    stepped k c .answer .code ≡ 0 → Among serving-ops (c .op) → c .b ≡ 0
     → (stepped k c .answer .released .0 ≡ 0) × (stepped k c .next .waiter ≡ k .waiter)
 
 -- ## The promise on releases
--- Whenever an answer releases task t, be it for a Wake, a closep or a done: there is one task `low` and one object
+-- Whenever an answer releases task t, be it for a Wake or the end of a body: there is one task `low` and one object
 -- such that, at every later moment at which t has not run yet (the moment of the release among them), if a task of a
 -- base below t's runs, then it is `low`; it held that object at the release, and has held it at every moment since, so
 -- it has closed it at none of the commands between. `low` and the object are found at the release, before any later

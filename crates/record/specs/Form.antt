@@ -12,7 +12,7 @@ abbrev pub lastEdition : ℕ
 lastEdition = 2
 
 abbrev pub lastOp : ℕ
-lastOp = 11
+lastOp = 15
 
 abbrev pub lastCode : ℕ
 lastCode = 13
@@ -100,7 +100,7 @@ headerFields r =
 abbrev pub isSeed : ℕ → Bool
 isSeed v = leb 1 v && leb v lastSeed
 
--- what makes a command record beside its mark: op 1..11, code 0..13, running and released 0..31
+-- what makes a command record beside its mark: op 1..15, code 0..13, running and released 0..31
 abbrev pub inCommand : ℕ → ℕ → ℕ → ℕ → Bool
 inCommand op code running released =
     leb 1 op && leb op lastOp && leb code lastCode && leb running lastTask && leb released lastTask

@@ -14,7 +14,7 @@ pub const RECORD_BYTES: usize = 16;
 // The ranges of the fields, each in this one place (and in specs/Form).
 const LAST_EDITION: u8 = 2;
 
-const LAST_OP: u8 = 11;
+const LAST_OP: u8 = 15;
 
 const LAST_CODE: u8 = 13;
 

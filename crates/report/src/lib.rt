@@ -71,6 +71,10 @@ fn word_of(op: u8) -> Word
         9 => Word(*b"closef ", 6),
         10 => Word(*b"entry  ", 5),
         11 => Word(*b"done   ", 4),
+        12 => Word(*b"failp  ", 5),
+        13 => Word(*b"failf  ", 5),
+        14 => Word(*b"faile  ", 5),
+        15 => Word(*b"failw  ", 5),
         _ => Word(*b"       ", 0),
     }
 }

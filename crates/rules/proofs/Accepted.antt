@@ -3,12 +3,12 @@
 use Prim.Native.Nat.{ℕ, suc, _+_, _≤_, _<_, _^_}
 use native.Mathlib.Omega.{arith}
 use mathlib.Core.Path.{_≡_, refl, sym, ap, _∙_, subst}
-use mathlib.Core.Logic.{_≢_, _⊎_, inl, inr}
+use mathlib.Core.Logic.{_≢_}
 use mathlib.Core.Bool.{Bool, true, false, cond, not, _&&_, _||_, true≢false}
 use mathlib.Core.List.{List, [], _∷_}
 use lib.Dec.{eqb, leb, ltb}
 use lib.ListN.{getD, List·getD-eq-default}
-use borrow.Author.Tests.{eqb-true, eq-eqb, eqb-false, ltb-true, ltb-false, leb-true, leb-false, le-ltb, not-false, not-true}
+use borrow.Author.Tests.{eqb-true, eq-eqb, eqb-false, ltb-true, ltb-false, leb-true, leb-false, le-ltb, ne-eqb, not-false, not-true}
 use Rattle.rules.specs.Line.{at, within, all-below, front, empty, at-tail, count}
 use Rattle.rules.specs.Machine.{Machine, Command, last-opened, empty-handed, holders, active, runner}
 use Rattle.rules.specs.declared.Kind.{Kind}
@@ -18,7 +18,7 @@ use Rattle.rules.specs.Kinds.{kinds, last-op, kind-at, kind}
 use Rattle.rules.specs.Table.{Out, same, take, yield, sleep, await, Rel, none, due, serve, Effect, nothing, creates, declares, begins, moves, opens}
 use Rattle.rules.specs.Table.{closing, effect-of, effect, freed, enter, release}
 use Rattle.rules.specs.Refusals.{checks-of, checks, first-number, refusal, fits, holds-so}
-use Rattle.rules.proofs.Words.{All}
+use Rattle.rules.proofs.Words.{All, Among, releasing-ops}
 use Rattle.rules.proofs.Lists.{all-map, all-few, count-place}
 use Rattle.rules.proofs.Tests.{both-true, tests-is, tests-all-below}
 use Rattle.rules.proofs.Hands.{act-held}
@@ -250,15 +250,11 @@ each-op f known other op = go (ltb op (suc last-op)) refl
     go true e = tests-all-below (λ n. tests-is (f n (kind-at n))) (suc last-op) .sure known op (ltb-true _ _ e)
     go false e = rw (List·getD-eq-default kinds NoKind {n = op} (ltb-false _ _ e)) (other op)
 
--- The ops that may release are 5, and 8 and 11.
+-- Which ops may release, and which of them is a Wake.
 pub wake-op : (op : ℕ) → releasing (kind-at op) ≡ 1 → op ≡ 5
 unfolding all-below
 wake-op op e = eqb-true _ _ (rw (eq-eqb _ 1 e) at (each-op (λ n k. not (eqb (releasing k) 1) || eqb n 5) refl (λ n. refl) op))
 
-pub serve-op : (op : ℕ) → releasing (kind-at op) ≡ 2 → (op ≡ 8) ⊎ (op ≡ 11)
+pub release-op : (op : ℕ) → releasing (kind-at op) ≢ 0 → Among releasing-ops op
 unfolding all-below
-serve-op op e = go (eqb op 8) refl (rw (eq-eqb _ 2 e) at (each-op (λ n k. not (eqb (releasing k) 2) || (eqb n 8 || eqb n 11)) refl (λ n. refl) op))
-  where
-    go : (b : Bool) → eqb op 8 ≡ b → b || eqb op 11 ≡ true → (op ≡ 8) ⊎ (op ≡ 11)
-    go true h t = inl (eqb-true _ _ h)
-    go false h t = inr (eqb-true _ _ t)
+release-op op e = leb-true _ _ (rw (ne-eqb _ 0 e) at (each-op (λ n k. eqb (releasing k) 0 || leb 1 (count n releasing-ops)) refl (λ n. refl) op))

@@ -5,7 +5,7 @@
 use Prim.Native.Nat.{ℕ, suc, _≤_, _<_}
 use native.Mathlib.Omega.{arith}
 use mathlib.Core.Path.{_≡_, refl, sym, subst, _∙_}
-use mathlib.Core.Logic.{_⊎_, inl, inr, ⊎-elim}
+use mathlib.Core.Logic.{⊎-elim}
 use mathlib.Core.Bool.{Bool, true, false, cond}
 use mathlib.Core.List.{List, [], _∷_}
 use lib.Dec.{eqb}
@@ -14,11 +14,12 @@ use lib.Seq.{getD-set-same}
 use borrow.Author.Tests.{eqb-true}
 use Rattle.rules.specs.Line.{at, front, behind-front, behind-few}
 use Rattle.rules.specs.Machine.{Machine, Command, active, runner}
-use Rattle.rules.specs.Table.{Rel, Effect, close, yield, sleep, none, serve, due, creates, moves, closing, freed, freed-by, effect, release, leave}
+use Rattle.rules.specs.Kinds.{kind-at}
+use Rattle.rules.specs.Table.{Rel, Effect, close, yield, sleep, none, serve, due, creates, moves, closing, freed, freed-by, effect-of, effect, release, leave}
 use Rattle.rules.specs.Table.{carry}
 use Rattle.rules.specs.Run.{accepts, next, released}
-use Rattle.rules.proofs.Words.{Pairwise, Free, Ordered}
-use Rattle.rules.proofs.Lists.{pairwise-behind, all-at, lt-or-ge}
+use Rattle.rules.proofs.Words.{Pairwise, Free, Ordered, Among, closing-ops, serving-ops}
+use Rattle.rules.proofs.Lists.{pairwise-behind, all-at, lt-or-ge, standing}
 use Rattle.rules.proofs.Sounds.{Sound}
 use Rattle.rules.proofs.Placing.{Split, tail-splits, head-splits, time-splits}
 use Rattle.rules.proofs.Kept.{behind-falls, new-hand, release-sound}
@@ -95,39 +96,32 @@ module _ (m : Machine) (s : Sound m) where
           List·getD-eq-default (set (m .queue) o (behind-few 1 (getD (m .queue) o []))) [] {n = o}
           (let z = length-set (m .queue) o (behind-few 1 (getD (m .queue) o [])) in omega arith)
 
--- The rows of the three closings: closep and done have the same.
-closep-row : (m : Machine) (c : Command) → c .op ≡ 8 → effect m c ≡ closing true c
-closep-row m c e = rw e
+-- The rows of the ends of a body: all close, those that have a barrier alike.
+closing-row : (m : Machine) (c : Command) → Among closing-ops (c .op) → (rel : Rel) × (effect m c ≡ moves close rel 0)
+closing-row m c = standing (λ op. (rel : Rel) × (effect-of (kind-at op) m c ≡ moves close rel 0)) closing-ops
+    ((_, refl), ((_, refl), ((_, refl), ((_, refl), ((_, refl), ((_, refl), ((_, refl), tt))))))) (c .op)
 
-closef-row : (m : Machine) (c : Command) → c .op ≡ 9 → effect m c ≡ moves close none 0
-closef-row m c e = rw e
-
-done-row : (m : Machine) (c : Command) → c .op ≡ 11 → effect m c ≡ closing true c
-done-row m c e = rw e
+serving-row : (m : Machine) (c : Command) → Among serving-ops (c .op) → effect m c ≡ closing true c
+serving-row m c = standing (λ op. effect-of (kind-at op) m c ≡ closing true c) serving-ops (refl, (refl, (refl, (refl, (refl, tt))))) (c .op)
 
 -- With barrier 0 the row of done is the one that document 01 gives it: so (0 being in range as an unused operand and as a barrier) a tape whose
 -- op 11 records have b 0 is judged as it was before request 2.
 pub shut-done-is-old : (m : Machine) (c : Command) → c .op ≡ 11 → c .b ≡ 0 → effect m c ≡ moves close none 0
 shut-done-is-old m c e z = rw (e, z)
 
-pub closed-holds-nothing : (m : Machine) → Sound m → (c : Command) → accepts m c ≡ true → (c .op ≡ 8) ⊎ (c .op ≡ 9) ⊎ (c .op ≡ 11) → Free (next m c) (runner m)
+pub closed-holds-nothing : (m : Machine) → Sound m → (c : Command) → accepts m c ≡ true → Among closing-ops (c .op) → Free (next m c) (runner m)
 unfolding next
-closed-holds-nothing m s c ok op = rw ok (go op)
+closed-holds-nothing m s c ok op = rw ok (of-row (closing-row m c op))
   where
-    of-row : (rel : Rel) → effect m c ≡ moves close rel 0 → Free (carry m (effect m c)) (runner m)
-    of-row rel e =
+    of-row : (rel : Rel) × (effect m c ≡ moves close rel 0) → Free (carry m (effect m c)) (runner m)
+    of-row (rel, e) =
         subst (λ (x : Effect). Allowed m x → Free (carry m x) (runner m)) (sym e) (λ g. emptied m s rel 0 g) (allowed m s c (eqb-true _ _ ok))
 
-    go : (c .op ≡ 8) ⊎ (c .op ≡ 9) ⊎ (c .op ≡ 11) → Free (carry m (effect m c)) (runner m)
-    go (inl e) = of-row _ (closep-row m c e)
-    go (inr (inl e)) = of-row none (closef-row m c e)
-    go (inr (inr e)) = of-row _ (done-row m c e)
-
--- An accepted closep or done serves by its barrier: with 1 it releases the first that waits on its object, and nobody waits there any more;
+-- An accepted end of a body that has a barrier serves by it: with 1 it releases the first that waits on its object, and nobody waits there any more;
 -- with 0 it releases nobody, and who waits waits on.
-module _ (m : Machine) (s : Sound m) (c : Command) (ok : accepts m c ≡ true) (op : (c .op ≡ 8) ⊎ (c .op ≡ 11)) where
+module _ (m : Machine) (s : Sound m) (c : Command) (ok : accepts m c ≡ true) (op : Among serving-ops (c .op)) where
   its-row : effect m c ≡ closing true c
-  its-row = ⊎-elim (λ (e : c .op ≡ 8). closep-row m c e) (λ (e : c .op ≡ 11). done-row m c e) op
+  its-row = serving-row m c op
 
   pub closing-serves : released m c ≡ cond (eqb (c .b) 1) (front 0 (getD (m .queue) (c .a) [])) 0
   unfolding released

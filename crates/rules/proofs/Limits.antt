@@ -8,7 +8,7 @@ use Rattle.rules.specs.Table.{with-lines, with-hands, carry, leave, rele
 use Rattle.rules.specs.Refusals.{refusal}
 use Rattle.rules.specs.Run.{next, question}
 use Rattle.rules.proofs.Words.{cmd}
-use Rattle.rules.proofs.Script.{create, object, start, delay, wake, advance, open′, closep, closef, entry, done, made, on, low, _▸_, otherwise}
+use Rattle.rules.proofs.Script.{create, object, start, delay, wake, advance, open′, closep, closef, entry, done, failp, failf, faile, failw, made, on, low, _▸_, otherwise}
 
 -- 11 is met in no run from the fresh machine, but in a saved state: 21 runs, 23 of the same base holds object 2 behind it, and 24 waits there.
 abbrev pub forged : Machine
@@ -45,11 +45,11 @@ row x bare made on opened entered above queued idle forged = (x, bare ∷ made �
 abbrev range : Command → Command × List ℕ
 range c = row c 4 4 4 4 4 4 4 4 4
 
--- bare made on opened entered above queued idle forged: before Start all of 4..11 are 2, after it all of 1..3 are 3
+-- bare made on opened entered above queued idle forged: before Start all of 4..15 are 2, after it all of 1..3 are 3
 abbrev table : List (Command × List ℕ)
 table =
     -- no op
-    range (cmd 0 0 0 0) ∷ range (cmd 12 0 0 0) ∷ range (cmd 12 7 1 0) ∷ range (cmd 255 0 0 0) ∷ range (cmd 261 0 0 0) ∷
+    range (cmd 0 0 0 0) ∷ range (cmd 16 0 0 0) ∷ range (cmd 16 7 1 0) ∷ range (cmd 255 0 0 0) ∷ range (cmd 261 0 0 0) ∷
     -- 1 create: a task 1..31, a priority 1..15; 21 is set up before
     row (create 1 6) 0 0 3 3 3 3 3 3 3 ∷
     row (create 31 6) 0 0 3 3 3 3 3 3 3 ∷
@@ -117,7 +117,34 @@ table =
     row (done 1 0) 2 2 9 9 9 9 9 7 9 ∷
     row (done 2 0) 2 2 9 9 9 9 9 7 9 ∷
     row (done 5 1) 2 2 6 6 6 6 6 6 6 ∷
-    range (done 0 1) ∷ range (done 8 0) ∷ range (done 8 1) ∷ range (done 7 2) ∷ range (cmd 11 7 0 1) ∷ []
+    range (done 0 1) ∷ range (done 8 0) ∷ range (done 8 1) ∷ range (done 7 2) ∷ range (cmd 11 7 0 1) ∷
+    -- 12 failp, as closep
+    row (failp 7 0) 2 2 9 0 9 9 9 7 9 ∷
+    row (failp 7 1) 2 2 9 0 9 9 9 7 9 ∷
+    row (failp 1 0) 2 2 9 9 9 9 9 7 9 ∷
+    row (failp 2 0) 2 2 9 9 9 9 9 7 9 ∷
+    row (failp 5 1) 2 2 6 6 6 6 6 6 6 ∷
+    range (failp 0 1) ∷ range (failp 8 0) ∷ range (failp 8 1) ∷ range (failp 7 2) ∷ range (cmd 12 7 0 1) ∷
+    -- 13 failf, as closef
+    row (failf 7) 2 2 9 0 9 9 9 7 9 ∷
+    row (failf 1) 2 2 9 9 9 9 9 7 9 ∷
+    row (failf 2) 2 2 9 9 9 9 9 7 9 ∷
+    row (failf 5) 2 2 6 6 6 6 6 6 6 ∷
+    range (failf 0) ∷ range (failf 8) ∷ range (cmd 13 7 1 0) ∷ range (cmd 13 7 0 1) ∷
+    -- 14 faile, as done
+    row (faile 7 0) 2 2 9 9 0 9 9 7 9 ∷
+    row (faile 7 1) 2 2 9 9 0 9 9 7 9 ∷
+    row (faile 1 0) 2 2 9 9 9 9 9 7 9 ∷
+    row (faile 2 0) 2 2 9 9 9 9 9 7 9 ∷
+    row (faile 5 1) 2 2 6 6 6 6 6 6 6 ∷
+    range (faile 0 1) ∷ range (faile 8 0) ∷ range (faile 8 1) ∷ range (faile 7 2) ∷ range (cmd 14 7 0 1) ∷
+    -- 15 failw, as closep
+    row (failw 7 0) 2 2 9 0 9 9 9 7 9 ∷
+    row (failw 7 1) 2 2 9 0 9 9 9 7 9 ∷
+    row (failw 1 0) 2 2 9 9 9 9 9 7 9 ∷
+    row (failw 2 0) 2 2 9 9 9 9 9 7 9 ∷
+    row (failw 5 1) 2 2 6 6 6 6 6 6 6 ∷
+    range (failw 0 1) ∷ range (failw 8 0) ∷ range (failw 8 1) ∷ range (failw 7 2) ∷ range (cmd 15 7 0 1) ∷ []
 
 pub limits : otherwise (in-each refusal columns) table ≡ []
 unfolding next refusal carry leave release

@@ -15,13 +15,13 @@ use Rattle.rules.specs.Kinds.{kind}
 use Rattle.rules.specs.Table.{Out, same, take, yield, close, sleep, await, Rel, none, due, serve}
 use Rattle.rules.specs.Table.{Effect, nothing, creates, declares, begins, moves, effect, with-hand, freed, freed-by, enter, release, leave, carry}
 use Rattle.rules.specs.Run.{next, released, run}
-use Rattle.rules.proofs.Words.{All, Pairwise, Free, Holding, Ordered, moments, Clear}
+use Rattle.rules.proofs.Words.{All, Pairwise, Free, Holding, Ordered, Among, releasing-ops, moments, Clear}
 use Rattle.rules.proofs.Lists.{eq-or-ne, lt-or-ge, one-self, standing}
 use Rattle.rules.proofs.Before.{Before, here, there, before-map, before-all, before-front, before-good, before-bad, before-counts}
 use Rattle.rules.proofs.Hands.{act-free, other-hand}
 use Rattle.rules.proofs.Sounds.{Sound, based, others, object-real}
 use Rattle.rules.proofs.Kept.{AllowedOut, freed-away, freed-free, release-sound, new-hand}
-use Rattle.rules.proofs.Accepted.{MayMove, Allowed, rel-of, Releases, nobody, woken, served, releases, wake-op, serve-op}
+use Rattle.rules.proofs.Accepted.{MayMove, Allowed, rel-of, Releases, nobody, woken, served, releases, release-op}
 use Rattle.rules.proofs.Step.{Step, kept, carried, step, next-sound, moved-rest, moved-started}
 use Rattle.rules.proofs.Clear.{Over, one-clear}
 
@@ -267,15 +267,15 @@ freed-of (declares o p) m = refl
 freed-of begins m = refl
 freed-of (moves out rel n) m = refl
 
-pub released-by : (m : Machine) → Sound m → (c : Command) → released m c ≢ 0 → (c .op ≡ 5) ⊎ (c .op ≡ 8) ⊎ (c .op ≡ 11)
+pub released-by : (m : Machine) → Sound m → (c : Command) → released m c ≢ 0 → Among releasing-ops (c .op)
 released-by m s c n = go (step m s c)
   where
-    of-row : released m c ≡ freed-by (effect m c) m → Releases (kind c) (rel-of (effect m c)) → (c .op ≡ 5) ⊎ (c .op ≡ 8) ⊎ (c .op ≡ 11)
+    of-row : released m c ≡ freed-by (effect m c) m → Releases (kind c) (rel-of (effect m c)) → Among releasing-ops (c .op)
     of-row f (nobody r) = absurd (n (f ∙ (freed-of (effect m c) m ∙ ap (λ (rel : Rel). front 0 (freed rel m)) r)))
-    of-row f (woken r) = inl (wake-op (c .op) r)
-    of-row f (served r q) = inr (serve-op (c .op) r)
+    of-row f (woken r) = release-op (c .op) (λ z. let w : _≡_ {A = ℕ} 1 0 = sym r ∙ z in absurd (omega arith))
+    of-row f (served r q) = release-op (c .op) (λ z. let w : _≡_ {A = ℕ} 2 0 = sym r ∙ z in absurd (omega arith))
 
-    go : Step m c → (c .op ≡ 5) ⊎ (c .op ≡ 8) ⊎ (c .op ≡ 11)
+    go : Step m c → Among releasing-ops (c .op)
     go (kept e f w) = absurd (n f)
     go (carried e f w g) = of-row f (releases m c (kind c))
 

@@ -44,6 +44,18 @@ entry object barrier = cmd 10 object barrier 0
 abbrev pub done : ℕ → ℕ → Command
 done object barrier = cmd 11 object barrier 0
 
+abbrev pub failp : ℕ → ℕ → Command
+failp object barrier = cmd 12 object barrier 0
+
+abbrev pub failf : ℕ → Command
+failf object = cmd 13 object 0 0
+
+abbrev pub faile : ℕ → ℕ → Command
+faile object barrier = cmd 14 object barrier 0
+
+abbrev pub failw : ℕ → ℕ → Command
+failw object barrier = cmd 15 object barrier 0
+
 -- the state behind one command more
 infixl 70 _▸_
 abbrev pub _▸_ : Machine → Command → Machine

@@ -4,7 +4,7 @@
 use Prim.Native.Nat.{ℕ, zero, suc, _-_, _≤_, _<_}
 use native.Mathlib.Omega.{arith}
 use mathlib.Core.Path.{_≡_, refl, sym, ap, _∙_}
-use mathlib.Core.Logic.{_≢_, _↔_, _⊎_}
+use mathlib.Core.Logic.{_≢_, _↔_}
 use mathlib.Core.Bool.{true, cond}
 use mathlib.Core.List.{List, []}
 use lib.Dec.{eqb, ltb}
@@ -17,7 +17,7 @@ use Rattle.rules.specs.declared.Kind.the-variants.{NoKind, Creating, Dec
 use Rattle.rules.specs.Refusals.{behind-range, refusal}
 use Rattle.rules.specs.Sound.{sound}
 use Rattle.rules.specs.Run.{accepts, next, released, answer, run, answers, question, wakes-left}
-use Rattle.rules.proofs.Words.{All, Pairwise, Free, Holding, moments, wakes, wakes-in, DueAt, Clear}
+use Rattle.rules.proofs.Words.{All, Pairwise, Free, Holding, Among, closing-ops, serving-ops, releasing-ops, moments, wakes, wakes-in, DueAt, Clear}
 use Rattle.rules.proofs.Lists.{pairwise-map, all-every}
 use Rattle.rules.proofs.Hands.{act-held}
 use Rattle.rules.proofs.Sounds.{Sound, tests-sound}
@@ -131,11 +131,11 @@ ahead-of-a-holder before =
     pairwise-map {P = λ x. Unit {0}} (λ a b u v w n. rw (act-held m b n) at (w n)) (m .ready) (all-every (λ x. tt) (m .ready))
     (run-clear before fresh fresh-sound fresh-clear)
 
--- An accepted closing (closep, closef, done) leaves the runner's hands empty: what the promise below calls "closed" is "no longer held".
+-- An accepted closing (closep, closef, done, and those by an exception) leaves the runner's hands empty: what the promise below calls "closed" is "no longer held".
 -- Rules out: closings that do nothing, or that keep the object. Leaves: whom a closing releases (below); a machine that accepts none, as one that never
 -- starts (the walk).
 pub closing-empties : (before : List Command) (c : Command) → let m = run fresh before in
-    accepts m c ≡ true → (c .op ≡ 8) ⊎ (c .op ≡ 9) ⊎ (c .op ≡ 11) → Free (next m c) (runner m)
+    accepts m c ≡ true → Among closing-ops (c .op) → Free (next m c) (runner m)
 closing-empties before c ok op = closed-holds-nothing (run fresh before) (run-sound before fresh fresh-sound) c ok op
 
 -- ## The order of the checks
@@ -155,13 +155,13 @@ checks-in-order Entering m c = refl
 checks-in-order (Ending e) m c = refl
 
 -- ## Who is served
--- An accepted closep or done with barrier 1 releases the task that waits on its object (0: none does), and nobody waits there any more; with
+-- An accepted closep or done, or either by an exception, with barrier 1 releases the task that waits on its object (0: none does), and nobody waits there any more; with
 -- barrier 0 it releases nobody, and who waits waits on. So no end of a body with an open barrier leaves a task waiting on its object:
 -- `done` looks at the waiter as closep does.
 -- Rules out: an entry's end that passes the waiter over, one that releases behind a shut barrier, a waiter that is named and not let go.
 -- Leaves: where the released task goes (Goes, served-to-tail); that anybody opens the barrier.
 pub open-serves : (before : List Command) (c : Command) → let m = run fresh before in
-    accepts m c ≡ true → (c .op ≡ 8) ⊎ (c .op ≡ 11) → c .b ≡ 1
+    accepts m c ≡ true → Among serving-ops (c .op) → c .b ≡ 1
     → (released m c ≡ front 0 (getD (m .queue) (c .a) [])) × (getD (next m c .queue) (c .a) [] ≡ [])
 open-serves before c ok op e =
     let m = run fresh before in
@@ -169,19 +169,19 @@ open-serves before c ok op e =
     (closing-serves m s c ok op ∙ ap (λ (b : ℕ). cond (eqb b 1) (front 0 (getD (m .queue) (c .a) [])) 0) e, served-waits-no-more m s c ok op e)
 
 pub shut-serves-nobody : (before : List Command) (c : Command) → let m = run fresh before in
-    accepts m c ≡ true → (c .op ≡ 8) ⊎ (c .op ≡ 11) → c .b ≡ 0 → (released m c ≡ 0) × (next m c .queue ≡ m .queue)
+    accepts m c ≡ true → Among serving-ops (c .op) → c .b ≡ 0 → (released m c ≡ 0) × (next m c .queue ≡ m .queue)
 shut-serves-nobody before c ok op e =
     let m = run fresh before in
     let s = run-sound before fresh fresh-sound in
     (closing-serves m s c ok op ∙ ap (λ (b : ℕ). cond (eqb b 1) (front 0 (getD (m .queue) (c .a) [])) 0) e, shut-keeps-waiters m s c ok op e)
 
--- Only a Wake, a closep or a done releases.
+-- Only a Wake, and an end of a body that has a barrier, releases: no other op.
 -- Rules out: a release by any other command. Leaves: that these do, and whom (wake-releases-due and open-serves above).
-pub released-by-three : (before : List Command) (c : Command) → released (run fresh before) c ≢ 0 → (c .op ≡ 5) ⊎ (c .op ≡ 8) ⊎ (c .op ≡ 11)
-released-by-three before c n = released-by (run fresh before) (run-sound before fresh fresh-sound) c n
+pub released-by-these : (before : List Command) (c : Command) → released (run fresh before) c ≢ 0 → Among releasing-ops (c .op)
+released-by-these before c n = released-by (run fresh before) (run-sound before fresh fresh-sound) c n
 
 -- ## The promise on releases
--- Whenever a command releases task t, be it a Wake, a closep or a done (released-by-three): there is one task `low` and one object such
+-- Whenever a command releases task t, be it a Wake or the end of a body (released-by-these): there is one task `low` and one object such
 -- that, at every later moment at which t has not run yet (the moment of the release among them), if a task of a base below t's runs, then
 -- it is `low`; it held that object at the release, and has held it at every moment since, so it has closed it at none of the commands between.
 -- `low` and the object are found at the release, before any later command is known: so the tasks of lower base that run at any two such

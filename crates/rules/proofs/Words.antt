@@ -6,7 +6,7 @@ use mathlib.Core.Bool.{Bool, _&&_}
 use mathlib.Core.List.{List, [], _∷_}
 use lib.Dec.{eqb}
 use lib.ListN.{length, getD}
-use Rattle.rules.specs.Line.{at, one-if}
+use Rattle.rules.specs.Line.{at, one-if, count}
 use Rattle.rules.specs.Machine.{Machine, Command, last-opened, active}
 use Rattle.rules.specs.Run.{accepts, next}
 
@@ -35,6 +35,20 @@ Ordered m a b = active m b ≤ active m a
 -- the command with these numbers
 abbrev pub cmd : ℕ → ℕ → ℕ → ℕ → Command
 cmd op a b value = record { op = op; a = a; b = b; value = value }
+
+-- The ops that end a body: closep, closef, done, and the same by an exception; those of them that have a barrier, and serve by it; and those that may
+-- release a task, a Wake too. And that an op is one of those.
+abbrev pub closing-ops : List ℕ
+closing-ops = 8 ∷ 9 ∷ 11 ∷ 12 ∷ 13 ∷ 14 ∷ 15 ∷ []
+
+abbrev pub serving-ops : List ℕ
+serving-ops = 8 ∷ 11 ∷ 12 ∷ 14 ∷ 15 ∷ []
+
+abbrev pub releasing-ops : List ℕ
+releasing-ops = 5 ∷ serving-ops
+
+abbrev pub Among : List ℕ → ℕ → Type 0
+Among ops op = 1 ≤ count op ops
 
 -- the states of a run, the first and the last among them: the moments
 unfoldable pub moments : Machine → List Command → List Machine

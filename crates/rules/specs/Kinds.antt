@@ -6,13 +6,19 @@ use lib.ListN.{getD, length}
 use Rattle.rules.specs.declared.Kind.{Kind}
 use Rattle.rules.specs.declared.Kind.the-variants.{NoKind, Creating, Declaring, Starting, Delaying}
 use Rattle.rules.specs.declared.Kind.the-variants.{Waking, Advancing, Opening, Entering, Ending}
+use Rattle.rules.specs.declared.Whose.{Whose}
+use Rattle.rules.specs.declared.Whose.the-variants.{Nobody, Runner, Released}
 use Rattle.rules.specs.Machine.{Command, for-open, for-entry}
 
--- the end of a body that is held in that way
+-- The end of a body that is held in that way, which serves who waits or does not: without an exception; and by one,
+-- which is the runner's or the released task's.
 abbrev pub ends : ℕ → Bool → Kind
-ends way serves = Ending (record { way = way; serves = serves })
+ends way serves = Ending (record { way = way; serves = serves; whose = Nobody })
 
--- The kind of each op 1..11; no other number is an op.
+abbrev pub fails : ℕ → Bool → Whose → Kind
+fails way serves whose = Ending (record { way = way; serves = serves; whose = whose })
+
+-- The kind of each op 1..15; no other number is an op.
 abbrev pub kinds : List Kind
 kinds =
     NoKind ∷
@@ -26,7 +32,11 @@ kinds =
     ends for-open true ∷  -- 8 closep
     ends for-open false ∷  -- 9 closef
     Entering ∷  -- 10 entry
-    ends for-entry true ∷ []  -- 11 done (its barrier is request 2's)
+    ends for-entry true ∷  -- 11 done (its barrier is request 2's)
+    fails for-open true Runner ∷  -- 12 failp: closep by an exception (12..15 are request 6's)
+    fails for-open false Runner ∷  -- 13 failf: closef by one
+    fails for-entry true Runner ∷  -- 14 faile: done by one
+    fails for-open true Released ∷ []  -- 15 failw: closep; the waiter's entry body failed meanwhile
 
 -- the last op
 abbrev pub last-op : ℕ

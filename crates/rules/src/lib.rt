@@ -6,11 +6,20 @@ pub const FOR_OPEN: u8 = 1;
 
 pub const FOR_ENTRY: u8 = 2;
 
-// The end of a body: the way in which the object is held, and whether the command gives a barrier, by which a task
-// that waits is served.
+// Whose exception the end of a body sets: nobody's, that of the runner, which ends the body, or that of the task that
+// is released.
+pub enum Whose {
+    Nobody,
+    Runner,
+    Released,
+}
+
+// The end of a body: the way in which the object is held; whether the command gives a barrier, by which a task that
+// waits is served; and whose exception it sets.
 pub struct End {
     pub way: u8,
     pub serves: bool,
+    pub whose: Whose,
 }
 
 // What an op asks for, whatever its number is. NoKind is of what is no op. Opening begins a procedure or function,

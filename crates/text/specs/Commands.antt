@@ -11,11 +11,12 @@ use Rattle.text.specs.declared.Spoken.{Spoken}
 use Rattle.decimal.specs.Decimal.{decimal, number-of}
 use Rattle.text.specs.Words.{bytes, blank, word, behind, same}
 
--- the words, of op 1 to 11
+-- the words, of op 1 to 15
 abbrev pub words : List (List ℕ)
 words =
     bytes "create" ∷ bytes "object" ∷ bytes "start" ∷ bytes "delay" ∷ bytes "wake" ∷ bytes "advance"
-    ∷ bytes "open" ∷ bytes "closep" ∷ bytes "closef" ∷ bytes "entry" ∷ bytes "done" ∷ []
+    ∷ bytes "open" ∷ bytes "closep" ∷ bytes "closef" ∷ bytes "entry" ∷ bytes "done"
+    ∷ bytes "failp" ∷ bytes "failf" ∷ bytes "faile" ∷ bytes "failw" ∷ []
 
 -- the op that a word names, 0 for none: the first of the words is op n
 unfoldable pub named-from : ℕ → List (List ℕ) → List ℕ → ℕ
@@ -27,10 +28,10 @@ op-named w = named-from 1 words w
 
 -- the operands in use (proofs/Theorems has that they are those of the rules)
 abbrev pub uses-a : ℕ → Bool
-uses-a op = among (1 ∷ 2 ∷ 7 ∷ 8 ∷ 9 ∷ 10 ∷ 11 ∷ []) op
+uses-a op = among (1 ∷ 2 ∷ 7 ∷ 8 ∷ 9 ∷ 10 ∷ 11 ∷ 12 ∷ 13 ∷ 14 ∷ 15 ∷ []) op
 
 abbrev pub uses-b : ℕ → Bool
-uses-b op = among (1 ∷ 2 ∷ 8 ∷ 10 ∷ 11 ∷ []) op
+uses-b op = among (1 ∷ 2 ∷ 8 ∷ 10 ∷ 11 ∷ 12 ∷ 14 ∷ 15 ∷ []) op
 
 abbrev pub uses-value : ℕ → Bool
 uses-value op = among (4 ∷ 6 ∷ []) op

@@ -59,7 +59,7 @@ fn op_of(word: &[u8]) -> u8
 {
     number_among(
         word,
-        b"create  object  start   delay   wake    advance open    closep  closef  entry   done    ",
+        b"create  object  start   delay   wake    advance open    closep  closef  entry   done    failp   failf   faile   failw   ",
     )
 }
 
@@ -69,13 +69,22 @@ pub fn takes_a(op: u8) -> bool
 {
     (op == 1)
         | ((op == 2)
-            | ((op == 7) | ((op == 8) | ((op == 9) | ((op == 10) | ((op == 11) | false))))))
+            | ((op == 7)
+                | ((op == 8)
+                    | ((op == 9)
+                        | ((op == 10)
+                            | ((op == 11)
+                                | ((op == 12)
+                                    | ((op == 13) | ((op == 14) | ((op == 15) | false))))))))))
 }
 
 pub fn takes_b(op: u8) -> bool
     ensures { λ r. ⌜ r ≡ uses-b op ⌝ }
 {
-    (op == 1) | ((op == 2) | ((op == 8) | ((op == 10) | ((op == 11) | false))))
+    (op == 1)
+        | ((op == 2)
+            | ((op == 8)
+                | ((op == 10) | ((op == 11) | ((op == 12) | ((op == 14) | ((op == 15) | false)))))))
 }
 
 pub fn takes_value(op: u8) -> bool

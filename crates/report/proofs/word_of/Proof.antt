@@ -36,10 +36,22 @@ returns-10 : tie.Need-returns-10
 returns-10 c = (rw (c .before .before .match .keys10), omega arith, refl)
 
 returns-11 : tie.Need-returns-11
-returns-11 c = (rw (first-word (c .before .before .before .before .args .op) (c .before .before .if1 .taken)), omega arith, refl)
+returns-11 c = (rw (c .before .before .match .keys11), omega arith, refl)
 
 returns-12 : tie.Need-returns-12
-returns-12 c = (
+returns-12 c = (rw (c .before .before .match .keys12), omega arith, refl)
+
+returns-13 : tie.Need-returns-13
+returns-13 c = (rw (c .before .before .match .keys13), omega arith, refl)
+
+returns-14 : tie.Need-returns-14
+returns-14 c = (rw (c .before .before .match .keys14), omega arith, refl)
+
+returns-15 : tie.Need-returns-15
+returns-15 c = (rw (first-word (c .before .before .before .before .args .op) (c .before .before .if1 .taken)), omega arith, refl)
+
+returns-16 : tie.Need-returns-16
+returns-16 c = (
   no-word (c .before .before .before .before .args .op) (c .before .before .if1 .left) (c .before .before .before .match .rest),
   omega arith,
   refl,
@@ -60,4 +72,8 @@ word-of-spec =
     returns-9
     returns-10
     returns-11
-    returns-12)
+    returns-12
+    returns-13
+    returns-14
+    returns-15
+    returns-16)
