@@ -1,7 +1,7 @@
 // A command: its kind, what Range asks of its operands, and the number of the first check that refuses it. What the
 // checks look at is lent to be read, or goes by value, and every command gets a number, whatever the tables hold.
 ghost use mathlib.Core.Path.{_≡_};
-ghost use Rattle.rules.specs.Kinds.{kind, fails};
+ghost use Rattle.rules.specs.Kinds.{kind};
 ghost use mathlib.Core.Bool.{cond};
 ghost use Rattle.rules.specs.Refusals.{fits, barrier, unused, formed-as};
 ghost use Rattle.kernel_checks.specs.Shown.{to-rules};
@@ -30,12 +30,49 @@ pub struct Command {
     pub value: u64,
 }
 
-// The end of a body that is held in that way, which serves who waits or does not, and sets an exception or none.
-fn ended(way: u8, serves: bool, whose: Whose) -> Kind
-    ensures { λ r. ⌜ r ≡ fails way serves whose ⌝ }
-{
-    Kind::Ending(End { way, serves, whose })
-}
+// The ends of a body by their words: in which way the object was held, whether a barrier serves who waits, and whose
+// exception is set.
+const CLOSEP: End = End {
+    way: FOR_OPEN,
+    serves: true,
+    whose: Whose::Nobody,
+};
+
+const CLOSEF: End = End {
+    way: FOR_OPEN,
+    serves: false,
+    whose: Whose::Nobody,
+};
+
+const DONE: End = End {
+    way: FOR_ENTRY,
+    serves: true,
+    whose: Whose::Nobody,
+};
+
+const FAILP: End = End {
+    way: FOR_OPEN,
+    serves: true,
+    whose: Whose::Runner,
+};
+
+const FAILF: End = End {
+    way: FOR_OPEN,
+    serves: false,
+    whose: Whose::Runner,
+};
+
+const FAILE: End = End {
+    way: FOR_ENTRY,
+    serves: true,
+    whose: Whose::Runner,
+};
+
+const FAILW: End = End {
+    way: FOR_OPEN,
+    serves: true,
+    whose: Whose::Released,
+};
 
 impl Command {
     // The kind of its op.
@@ -51,14 +88,14 @@ impl Command {
             5 => Kind::Waking,
             6 => Kind::Advancing,
             7 => Kind::Opening,
-            8 => ended(FOR_OPEN, true, Whose::Nobody),
-            9 => ended(FOR_OPEN, false, Whose::Nobody),
+            8 => Kind::Ending(CLOSEP),
+            9 => Kind::Ending(CLOSEF),
             10 => Kind::Entering,
-            11 => ended(FOR_ENTRY, true, Whose::Nobody),
-            12 => ended(FOR_OPEN, true, Whose::Runner),
-            13 => ended(FOR_OPEN, false, Whose::Runner),
-            14 => ended(FOR_ENTRY, true, Whose::Runner),
-            15 => ended(FOR_OPEN, true, Whose::Released),
+            11 => Kind::Ending(DONE),
+            12 => Kind::Ending(FAILP),
+            13 => Kind::Ending(FAILF),
+            14 => Kind::Ending(FAILE),
+            15 => Kind::Ending(FAILW),
             _ => Kind::NoKind,
         }
     }

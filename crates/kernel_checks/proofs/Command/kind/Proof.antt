@@ -37,7 +37,19 @@ returns-11 : tie.Need-returns-11
 returns-11 c = rw (c .match .keys11)
 
 returns-12 : tie.Need-returns-12
-returns-12 c = no-op (c .before .args .self .op) (c .match .rest)
+returns-12 c = rw (c .match .keys12)
+
+returns-13 : tie.Need-returns-13
+returns-13 c = rw (c .match .keys13)
+
+returns-14 : tie.Need-returns-14
+returns-14 c = rw (c .match .keys14)
+
+returns-15 : tie.Need-returns-15
+returns-15 c = rw (c .match .keys15)
+
+returns-16 : tie.Need-returns-16
+returns-16 c = no-op (c .before .args .self .op) (c .match .rest)
 
 pub kind-spec : {M : Type 1} → statement M
 kind-spec =
@@ -54,4 +66,8 @@ kind-spec =
     returns-9
     returns-10
     returns-11
-    returns-12)
+    returns-12
+    returns-13
+    returns-14
+    returns-15
+    returns-16)
