@@ -1,0 +1,47 @@
+// Pending exceptions as bits of one number.
+ghost use mathlib.Core.Path.{_≡_};
+ghost use mathlib.Core.Bool.{false};
+ghost use Prim.Native.Nat.{_<_, _^_};
+ghost use Rattle.rules_exceptions.specs.Exceptions.{has, raised, cleared, pending-sound};
+ghost use Rattle.kernel_state.specs.Settle.{set-for};
+
+// The number with bit t alone.
+fn bit(t: u8) -> u32
+    requires { ⌜ t < 32 ⌝ }
+    ensures { λ r. ⌜ r ≡ 2 ^ t ⌝ }
+{
+    1u32 << t
+}
+
+// Whether task t has one pending. What is no task has none.
+pub fn has(pending: u32, t: u8) -> bool
+    ensures { λ r. ⌜ r ≡ has pending t ⌝ }
+{
+    if 31 < t {
+        return false;
+    }
+    (pending >> t) % 2 == 1
+}
+
+// One more, for task t. For nobody, and for what is no task, none is set; and one that is pending stays as it is.
+pub fn set_for(pending: u32, t: u8) -> u32
+    ensures { λ r. ⌜ r ≡ set-for pending t ⌝ }
+{
+    if 31 < t {
+        return pending;
+    }
+    if (t == 0) | has(pending, t) {
+        return pending;
+    }
+    pending + bit(t)
+}
+
+// That of task t is pending no more.
+pub fn cleared(pending: u32, t: u8) -> u32
+    ensures { λ r. ⌜ r ≡ cleared pending t ⌝ }
+{
+    if !has(pending, t) {
+        return pending;
+    }
+    pending - bit(t)
+}

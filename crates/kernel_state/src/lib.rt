@@ -1,0 +1,82 @@
+// The whole state: the kernel's tables, and the pending exceptions beside them. A step is the kernel's step of the
+// tables; what it does to the exceptions is settled by its answer.
+ghost use mathlib.Core.Path.{_≡_};
+ghost use Rattle.rules.specs.Kinds.{kind};
+ghost use Rattle.rules_exceptions.specs.Exceptions.{whose-of, task-of};
+ghost use Rattle.kernel.specs.Public.{to-rules};
+ghost use Rattle.kernel_state.specs.Settle.{settled};
+use kernel::Command;
+use kernel::Kernel;
+use kernel::TaskID;
+use kernel_checks::Kind;
+use kernel_checks::Whose;
+
+mod bits;
+
+// Bit t of `pending` is 1 where an exception was set for task t and no answer has shown it yet.
+pub struct State {
+    pub kernel: Kernel,
+    pub pending: u32,
+}
+
+// The number of the refusal, 0 for none; the running task after the step; the released task, 0 for nobody; and whether
+// an exception of the running task is shown.
+pub struct Answer {
+    pub code: u8,
+    pub running: TaskID,
+    pub released: TaskID,
+    pub exception: bool,
+}
+
+// The next state, and the answer.
+pub struct Stepped {
+    pub next: State,
+    pub answer: Answer,
+}
+
+// What is pending behind an answer, and whether the answer shows an exception.
+pub struct Settled {
+    pub pending: u32,
+    pub exception: bool,
+}
+
+// Whose exception a command sets.
+pub fn whose(c: Command) -> Whose
+    ensures { λ r. ⌜ r ≡ whose-of (kind (to-rules c)) ⌝ }
+{
+    match c.kind() {
+        Kind::Ending(e) => e.whose,
+        _ => Whose::Nobody,
+    }
+}
+
+// The task that this is, by who ran before the command and whom it released: 0 for nobody.
+fn task_of(w: Whose, closer: u8, freed: u8) -> u8
+    ensures { λ r. ⌜ r ≡ task-of w closer freed ⌝ }
+{
+    match w {
+        Whose::Nobody => 0,
+        Whose::Runner => closer,
+        Whose::Released => freed,
+    }
+}
+
+// What the answer of the kernel's step does to what is pending: an accepted one sets the exception of whose it is, and
+// shows and clears that of the running task. `closer` is the task that ran before the command.
+pub fn settle(pending: u32, w: Whose, closer: TaskID, answer: kernel::Answer) -> Settled
+    ensures { λ r. ⌜ r ≡ settled pending w (closer .0) answer ⌝ }
+{
+    if answer.code != 0 {
+        return Settled {
+            pending,
+            exception: false,
+        };
+    }
+    let released = answer.released;
+    let running = answer.running;
+    let told = bits::set_for(pending, task_of(w, closer.0, released.0));
+    Settled {
+        pending: bits::cleared(told, running.0),
+        exception: bits::has(told, running.0),
+    }
+}
