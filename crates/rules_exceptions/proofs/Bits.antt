@@ -91,6 +91,21 @@ has-raised p t u n = go (has p t) refl
     go true e = rw (ne-eqb t 0 n) (had p t u e)
     go false e = rw (ne-eqb t 0 n) (has-more p t u e)
 
+-- the same of every f, asked of a task that is not idle; and idle's bit is never set
+pub has-set : (p f u : ℕ) → u ≢ 0 → has (raised p f) u ≡ (has p u || eqb f u)
+has-set p f u n = go (eqb f 0) refl
+  where
+    go : (b : Bool) → eqb f 0 ≡ b → has (raised p f) u ≡ (has p u || eqb f u)
+    go true e = rw (eqb-true f 0 e, ne-eqb 0 u (λ z. n (sym z))) (sym (or-false (has p u)))
+    go false e = has-raised p f u (eqb-false f 0 e)
+
+pub has-idle : (p f : ℕ) → has (raised p f) 0 ≡ has p 0
+has-idle p f = go (eqb f 0) refl
+  where
+    go : (b : Bool) → eqb f 0 ≡ b → has (raised p f) 0 ≡ has p 0
+    go true e = rw (eqb-true f 0 e) refl
+    go false e = has-raised p f 0 (eqb-false f 0 e) ∙ rw e (or-false (has p 0))
+
 -- One is cleared.
 pub has-cleared : (p t u : ℕ) → has (cleared p t) u ≡ (has p u && not (eqb t u))
 has-cleared p t u = go (has p t) refl
