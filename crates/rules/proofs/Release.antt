@@ -239,7 +239,7 @@ moved-behind m s k out rel n g t c =
     (w .0, record { rank = st .rank; free = st .free; before = st .before }, moved-started out rel m ∙ g .on)
 
 -- the answer names the first of them
-front-counts : (l : List ℕ) → front 0 l ≢ 0 → 1 ≤ count (front 0 l) l
+pub front-counts : (l : List ℕ) → front 0 l ≢ 0 → 1 ≤ count (front 0 l) l
 front-counts [] n = absurd (n refl)
 front-counts (x ∷ l) n = omega (arith, one-self x)
 
@@ -260,7 +260,7 @@ released-behind m s k c n = go (step m s c)
     go (carried e f w g) = rw (e, f) (carried-behind m s k (effect m c) g (λ z. n (f ∙ z)))
 
 -- Only a Wake, a closep or a done releases.
-freed-of : (e : Effect) (m : Machine) → freed-by e m ≡ front 0 (freed (rel-of e) m)
+pub freed-of : (e : Effect) (m : Machine) → freed-by e m ≡ front 0 (freed (rel-of e) m)
 freed-of nothing m = refl
 freed-of (creates t p) m = refl
 freed-of (declares o p) m = refl
