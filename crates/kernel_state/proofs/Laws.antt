@@ -1,14 +1,18 @@
 -- What the code needs of bits, beside the laws of rules_exceptions. Assumes nothing.
 use Prim.Native.Nat.{ℕ, zero, suc, _+_, _*_, _-_, _/_, _%_, _≤_, _<_, _^_}
 use native.Mathlib.Omega.{arith}
+use native.Mathlib.Numerals.{add-one}
 use native.Mathlib.Nat.{mod-eq-of-lt, pow-le-pow-right}
 use mathlib.Core.Path.{_≡_, refl, sym, ap, _∙_}
-use mathlib.Core.Bool.{Bool, true, false, cond, not, _&&_, _||_}
+use mathlib.Core.Bool.{Bool, true, false, cond, not, _&&_, _||_, true≢false}
+use mathlib.Core.List.{List}
 use lib.Dec.{eqb, ltb}
 use borrow.Author.Tests.{lt-ltb, le-ltb, not-true, not-false}
 use Rattle.kernel_state.specs.Settle.{set-for}
-use Rattle.rules_exceptions.specs.Exceptions.{has, raised, cleared}
-use Rattle.rules_exceptions.proofs.Bits.{has-below, has-some, raised-below}
+use Rattle.rules.specs.Line.{at, all-below}
+use Rattle.rules_exceptions.specs.Exceptions.{has, raised, cleared, pending-sound}
+use Rattle.rules_exceptions.proofs.Bits.{has-none, has-below, has-some, raised-below}
+use Rattle.rules_exceptions.proofs.Kept.{tests-pending}
 
 pub fits : (t : ℕ) → t < 32 → 2 ^ t < 2 ^ 32
 fits t h = let w : 2 ^ t ≤ 2 ^ 31 = pow-le-pow-right {n = 2} (omega arith) {i = t} {j = 31} (omega arith) in omega arith
@@ -48,3 +52,20 @@ clear-below p t r f e k = has-below 32 p t f (sym e ∙ not-false _ k)
 
 pub clear-some : (p t x : ℕ) (r : Bool) → r ≡ has p t → not r ≡ false → x ≡ 2 ^ t → x ≤ p
 clear-some p t x r e k q = rw q (has-some p t (sym e ∙ not-false _ k))
+
+-- what `pending-sound` asks of each task
+abbrev pub allowed : Bool → List ℕ → ℕ → ℕ → Bool
+allowed started base p t = not (has p t) || started && not (eqb t 0) && not (eqb (at base t) 0)
+
+pub one-allowed : (started : Bool) (base : List ℕ) (p t : ℕ) (fit : Bool) → fit ≡ all-below t (allowed started base p)
+    → allowed started base p t && fit ≡ all-below (t + 1) (allowed started base p)
+unfolding all-below
+one-allowed started base p t fit e = rw (add-one, e)
+
+pub none-sound : (started : Bool) (base : List ℕ) (p : ℕ) → p ≡ 0 → true ≡ pending-sound started base p
+none-sound started base p e =
+    sym (tests-pending started base p .found (rw e (record { few = omega arith; whose = λ t h. absurd (true≢false (sym h ∙ has-none t)) })))
+
+pub all-sound : (started : Bool) (base : List ℕ) (p : ℕ) → p < 2 ^ 32 → (fit : Bool) → fit ≡ all-below 32 (allowed started base p) → fit ≡ pending-sound started base p
+unfolding pending-sound
+all-sound started base p h fit e = rw (lt-ltb p (2 ^ 32) h) e

@@ -13,6 +13,8 @@ use kernel_checks::Whose;
 
 mod bits;
 
+pub use bits::pending_sound;
+
 // Bit t of `pending` is 1 where an exception was set for task t and no answer has shown it yet.
 pub struct State {
     pub kernel: Kernel,

@@ -21,8 +21,13 @@ has-requires c κs = search needs
 
 returns-2 : tie.Need-returns-2
 returns-2 c =
-    rw (eq-eqb _ 0 (c .before .before .before .before .before .before .if1 .left), c .has .ensures, c .before .cleared .ensures, c .before .before .set-for .ensures,
-      c .before .before .before .task-of .ensures)
+    rw (
+      eq-eqb _ 0 (c .before .before .before .before .before .before .if1 .left),
+      c .has .ensures,
+      c .before .cleared .ensures,
+      c .before .before .set-for .ensures,
+      c .before .before .before .task-of .ensures,
+    )
 
 pub settle-spec : {M : Type 1} → statement M
 settle-spec = tie.close (tie.spec returns task-of-requires set-for-requires cleared-requires has-requires returns-2)
