@@ -211,7 +211,7 @@ procedure Line_Test is
          if After.Owed (T) /= (Set_At (T) > Named_At (T))
            or else (After.Owed (T) and then After.Tasks (T).Stands /= Ready)
          then
-            Complain ("a pending exception that was shown, or of no ready task");
+            Complain ("pending, though shown or of no ready task");
          end if;
       end loop;
    end Check_Exceptions;
