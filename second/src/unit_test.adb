@@ -56,6 +56,7 @@ procedure Unit_Test is
       for Round in 1 .. 2 loop
          for Op in 16 .. 300 loop
             Check_Step ("unknown op", M, (Op, 0, 0, 0), Out_Of_Range);
+            Check_Step ("unknown op, a", M, (Op, 1, 0, 0), Out_Of_Range);
          end loop;
          Check_Step ("op 0", M, (0, 0, 0, 0), Out_Of_Range);
          Check_Step ("create value", M, (1, 3, 3, 1), Out_Of_Range);
