@@ -134,17 +134,24 @@ procedure Unit_Test is
 
    --  From the fresh machine a runner never has a pending exception between
    --  two steps: the answer that named it has cleared it.  Nor does one that
-   --  sleeps or waits: it ran before.  So the states are forged.
-   procedure Test_Pending is
-      Base   : State := Small_System;
-      M      : State;
-      Shown  : Command := (Op_Advance, 0, 0, 0);
+   --  sleeps or waits: it ran before.  So the states are forged, from this one:
+   --  task 1 runs, task 2 waits on object 2, which task 1 holds if Inside.
+   function Waited_On (Inside : Boolean; Owes : Task_Id) return State is
+      M : State := Small_System;
    begin
-      Must (Base, Op_Object, 3, 9);
-      Must (Base, Op_Start, 0, 0);
-      Must (Base, Op_Entry, 2, 0);  --  task 2 waits on object 2
-      M := Base;
-      M.Owed (1) := True;
+      Must (M, Op_Start, 0, 0);
+      Must (M, Op_Entry, 2, 0);
+      if Inside then
+         Must (M, Op_Open, 2, 0);
+      end if;
+      M.Owed (Owes) := True;
+      return M;
+   end Waited_On;
+
+   procedure Test_Pending is
+      M     : State := Waited_On (Inside => False, Owes => 1);
+      Shown : Command := (Op_Advance, 0, 0, 0);
+   begin
       --  "The first accepted answer": refused ones neither show nor clear.
       Check_Shown ("Missing", M, (Op_Open, 7, 0, 0), Missing, 1, False);
       Check_Shown ("Late", M, (Op_Start, 0, 0, 0), Late, 1, False);
@@ -159,39 +166,35 @@ procedure Unit_Test is
                       when 2      => (Op_Open, 2, 0, 0),
                       when 3      => (Op_Entry, 2, 1, 0),
                       when others => (Op_Delay, 0, 0, 0));
-         M := Base;
-         M.Owed (1) := True;
+         M := Waited_On (Inside => False, Owes => 1);
          Check_Shown ("shown by any op", M, Shown, Accepted, 1, True);
          Check ("cleared", Boolean'Pos (M.Owed (1)), 0);
       end loop;
-      --  "keeps the older": of the closer, which runs on, or does not
-      M := Base;
-      Must (M, Op_Open, 2, 0);
-      M.Owed (1) := True;
+   end Test_Pending;
+
+   --  "An exception for a task with one pending keeps the older."
+   procedure Test_Older is
+      M : State := Waited_On (Inside => True, Owes => 1);
+   begin
+      --  of the closer, which runs on, or does not
       Check_Shown ("one, at once", M, (Op_Failf, 2, 0, 0), Accepted, 1, True);
       Check_Shown ("no second", M, (Op_Wake, 0, 0, 0), Accepted, 1, False);
-      M := Base;
-      Must (M, Op_Open, 2, 0);
-      M.Owed (1) := True;
+      M := Waited_On (Inside => True, Owes => 1);
       Check_Shown ("not yet", M, (Op_Failp, 2, 1, 0), Accepted, 2, False);
       Check_Shown ("one, later", M, (Op_Delay, 0, 0, 9), Accepted, 1, True);
       Check_Shown ("no second", M, (Op_Wake, 0, 0, 0), Accepted, 1, False);
       --  of the waiter, which op 15 releases
-      M := Base;
-      Must (M, Op_Open, 2, 0);
-      M.Owed (2) := True;
+      M := Waited_On (Inside => True, Owes => 2);
       Check_Shown ("waiter's", M, (Op_Failw, 2, 1, 0), Accepted, 2, True);
       Check_Shown ("no second", M, (Op_Wake, 0, 0, 0), Accepted, 2, False);
       --  of a waiter and of a sleeper, which others release
-      M := Base;
-      Must (M, Op_Open, 2, 0);
-      M.Owed (2) := True;
+      M := Waited_On (Inside => True, Owes => 2);
       Check_Shown ("closep", M, (Op_Closep, 2, 1, 0), Accepted, 2, True);
       Must (M, Op_Delay, 0, 0, 5);
       M.Owed (2) := True;
       Must (M, Op_Advance, 0, 0, 5);
       Check_Shown ("woken", M, (Op_Wake, 0, 0, 0), Accepted, 2, True);
-   end Test_Pending;
+   end Test_Older;
 
    procedure Check_Wakes
      (M : State; T : Natural; Number : Code; Wakes : Natural)
@@ -439,6 +442,7 @@ begin
    Test_Range;
    Test_Held;
    Test_Pending;
+   Test_Older;
    Test_Wakes_Left;
    Test_Draws;
    Test_Draw_Refusals;
