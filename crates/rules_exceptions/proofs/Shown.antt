@@ -13,7 +13,7 @@ use Rattle.rules.specs.Run.{accepts}
 use Rattle.rules.specs.Run as R
 use Rattle.rules.proofs.Tests.{both-true}
 use Rattle.rules_exceptions.specs.Exceptions.{State, has, cleared, fails, told, next, run}
-use Rattle.rules_exceptions.specs.Words.{names, sets, Silent, Unshown, from-start, set-by}
+use Rattle.rules_exceptions.specs.Words.{names, sets, Silent, Unshown, from-start, set-by, SetUnshown}
 use Rattle.rules_exceptions.proofs.Bits.{has-set, has-idle, has-cleared}
 
 -- One step, for a task that is not idle: pending behind the command is what was pending before it or is set by it, and is not shown by its answer.
@@ -27,7 +27,9 @@ step-has s c t n = go (accepts m c)
     go : (b : Bool)
         → has (cond b (record { machine = R.next m c; pending = cleared (told s c) (running (R.next m c)) }) s .pending) t
         ≡ ((has (s .pending) t || (b && eqb (fails m c) t)) && not (b && eqb (running (R.next m c)) t))
-    go true = has-cleared (told s c) (running (R.next m c)) t ∙ ap (λ (b : Bool). b && not (eqb (running (R.next m c)) t)) (has-set (s .pending) (fails m c) t n)
+    go true =
+        has-cleared (told s c) (running (R.next m c)) t ∙
+        ap (λ (b : Bool). b && not (eqb (running (R.next m c)) t)) (has-set (s .pending) (fails m c) t n)
     go false = sym (and-true _ ∙ or-false (has (s .pending) t))
 
 -- idle's bit stays 0
@@ -48,12 +50,6 @@ pub run-idle : (cs : List Command) (s : State) → has (s .pending) 0 ≡ false 
 unfolding run
 run-idle [] s e = e
 run-idle (c ∷ cs) s e = run-idle cs (next s c) (step-idle s c e)
-
--- An exception for t was set by one of these commands, and no accepted answer from its own on names t: `set-by` of Unshown, by itself.
-abbrev pub SetUnshown : ℕ → State → List Command → Type 0
-SetUnshown t s cs =
-    (before : List Command) × (c : Command) × (between : List Command) ×
-    (cs ≡ before ++ (c ∷ between)) × (sets (run s before) c t ≡ true) × Silent t (run s before) (c ∷ between)
 
 -- One command more in front: what is pending behind it was pending before, or is set by it; and it is silent on t.
 module _ (t : ℕ) (n : t ≢ 0) (s : State) (c : Command) (cs : List Command) where
@@ -94,3 +90,8 @@ pending-unshown t n [] s = (λ e. from-start e tt, back)
 pending-unshown t n (c ∷ cs) s =
     let ih = pending-unshown t n cs (next s c) in
     (λ e. more t n s c cs (ih .0 e), λ u. ih .1 (fewer t n s c cs u))
+
+-- One that was not pending at the start was set on the way.
+pub set-on-the-way : {t : ℕ} {s : State} {cs : List Command} → has (s .pending) t ≡ false → Unshown t s cs → SetUnshown t s cs
+set-on-the-way e (from-start h k) = absurd (true≢false (sym h ∙ e))
+set-on-the-way e (set-by before c between q f k) = (before, c, between, q, f, k)
