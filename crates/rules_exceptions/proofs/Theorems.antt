@@ -19,7 +19,8 @@ use Rattle.rules.specs.Run as R
 use Rattle.rules.proofs.Words.{All, Among, cmd}
 use Rattle.rules.proofs.Tests.{both-true}
 use Rattle.rules.proofs.Accepted.{each-op}
-use Rattle.rules_exceptions.specs.Exceptions.{State, has, raised, cleared, fails, whose-of, task-of, told, next, Answer, answer, run, answers, fresh, sound}
+use Rattle.rules_exceptions.specs.Exceptions.{State, has, raised, cleared, fails, whose-of, task-of, told, next, Answer, answer, run, answers}
+use Rattle.rules_exceptions.specs.Exceptions.{fresh, sound}
 use Rattle.rules_exceptions.specs.Words.{names, sets, Silent, Unshown, from-start, set-by, SetUnshown}
 use Rattle.rules_exceptions.proofs.Bits.{has-none, has-set, has-idle, raised-kept}
 use Rattle.rules_exceptions.proofs.Kept.{tests-state, idle-none, fresh-sound, next-sound, run-sound}

@@ -1,10 +1,12 @@
 -- What is shown when, by computing: one run from the fresh machine, and rows for each way to set one. Assumes nothing.
 use Prim.Native.Nat.{ℕ, _+_, _^_}
 use mathlib.Core.Path.{_≡_, refl}
+use mathlib.Core.Bool.{true}
 use mathlib.Core.List.{List, [], _∷_}
+use lib.ListN.{replicate}
 use Rattle.rules.specs.Line.{one-if, all-below}
-use Rattle.rules.specs.Machine.{Machine, Command}
-use Rattle.rules.specs.Table.{carry, leave, release}
+use Rattle.rules.specs.Machine.{Machine, Command, task-count}
+use Rattle.rules.specs.Table.{with-set-up, carry, leave, release}
 use Rattle.rules.specs.Refusals.{refusal}
 use Rattle.rules.specs.Run.{released}
 use Rattle.rules.specs.Run as R
@@ -85,8 +87,11 @@ pub rows : otherwise (λ r. gives (r .0) (r .1)) table ≡ []
 unfolding next answer R.next released refusal carry leave release
 rows = refl
 
--- What may be pending in a saved state, 1 where it may: those of the created tasks 21 to 24; not idle's, nor that of a task that is not created, or of
--- what is no task; and none before Start.
+-- What may be pending in a saved state, 1 where it may: those of the created tasks 21 to 24; not idle's, whatever bases there are, nor that of a task that
+-- is not created, or of what is no task; and none before Start.
+abbrev all-based : Machine
+all-based = with-set-up on (replicate task-count 5) (on .ceiling) true
+
 abbrev may : Machine → ℕ → ℕ → (Machine × ℕ) × List ℕ
 may m p verdict = ((m, p), verdict ∷ [])
 
@@ -94,7 +99,7 @@ pub pending-limits :
     otherwise (λ r. one-if (pending-sound (r .0 .started) (r .0 .base) (r .1)) ∷ [])
     (may on 0 1 ∷ may on (2 ^ 21) 1 ∷ may on (2 ^ 24) 1 ∷ may on (2 ^ 21 + 2 ^ 22 + 2 ^ 23 + 2 ^ 24) 1 ∷
     may on 1 0 ∷ may on (1 + 2 ^ 22) 0 ∷ may on (2 ^ 20) 0 ∷ may on (2 ^ 25) 0 ∷ may on (2 ^ 31 + 2 ^ 22) 0 ∷ may on (2 ^ 32) 0 ∷ may on (2 ^ 32 + 2 ^ 22) 0 ∷
-    may made 0 1 ∷ may made (2 ^ 22) 0 ∷ [])
+    may all-based (2 ^ 22) 1 ∷ may all-based 1 0 ∷ may made 0 1 ∷ may made (2 ^ 22) 0 ∷ [])
     ≡ []
 unfolding pending-sound all-below R.next refusal carry leave release
 pending-limits = refl
