@@ -4,10 +4,10 @@ use Prim.Native.Nat.{ℕ}
 use native.Mathlib.Omega.{arith}
 use mathlib.Core.Path.{_≡_, refl, sym, ap, _∙_}
 use mathlib.Core.Logic.{_≢_, _↔_}
-use mathlib.Core.Bool.{Bool, true, false, cond, not, _&&_, _||_, or-true, or-false, and-true, true≢false}
+use mathlib.Core.Bool.{Bool, true, false, cond, not, _&&_, _||_, or-true, or-false, and-true, and-false, true≢false}
 use mathlib.Core.List.{List, [], _∷_, _++_}
 use lib.Dec.{eqb}
-use borrow.Author.Tests.{not-true}
+use borrow.Author.Tests.{eq-eqb, not-true}
 use Rattle.rules.specs.Machine.{Machine, Command, running}
 use Rattle.rules.specs.Run.{accepts}
 use Rattle.rules.specs.Run as R
@@ -50,6 +50,24 @@ pub run-idle : (cs : List Command) (s : State) → has (s .pending) 0 ≡ false 
 unfolding run
 run-idle [] s e = e
 run-idle (c ∷ cs) s e = run-idle cs (next s c) (step-idle s c e)
+
+-- the running task has none left behind an accepted answer, for that shows it
+step-runner : (s : State) (c : Command) → has (s .pending) (running (s .machine)) ≡ false → has (next s c .pending) (running (next s c .machine)) ≡ false
+unfolding next
+step-runner s c e = go (accepts (s .machine) c)
+  where
+    m : Machine
+    m = R.next (s .machine) c
+
+    go : (b : Bool) → let n = cond b (record { machine = m; pending = cleared (told s c) (running m) }) s in has (n .pending) (running (n .machine)) ≡ false
+    go true = has-cleared (told s c) (running m) (running m) ∙ rw (eq-eqb (running m) (running m) refl) (and-false (has (told s c) (running m)))
+    go false = e
+
+pub run-runner : (cs : List Command) (s : State) → has (s .pending) (running (s .machine)) ≡ false
+    → has (run s cs .pending) (running (run s cs .machine)) ≡ false
+unfolding run
+run-runner [] s e = e
+run-runner (c ∷ cs) s e = run-runner cs (next s c) (step-runner s c e)
 
 -- One command more in front: what is pending behind it was pending before, or is set by it; and it is silent on t.
 module _ (t : ℕ) (n : t ≢ 0) (s : State) (c : Command) (cs : List Command) where

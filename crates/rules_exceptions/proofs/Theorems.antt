@@ -24,7 +24,7 @@ use Rattle.rules_exceptions.specs.Exceptions.{fresh, sound}
 use Rattle.rules_exceptions.specs.Words.{names, sets, Silent, Unshown, from-start, set-by, SetUnshown}
 use Rattle.rules_exceptions.proofs.Bits.{has-none, has-set, has-idle, raised-kept}
 use Rattle.rules_exceptions.proofs.Kept.{tests-state, idle-none, fresh-sound, next-sound, run-sound}
-use Rattle.rules_exceptions.proofs.Shown.{step-has, run-idle, pending-unshown, set-on-the-way}
+use Rattle.rules_exceptions.proofs.Shown.{step-has, run-idle, run-runner, pending-unshown, set-on-the-way}
 
 -- ## Tasks move as ever
 -- Ops 12 and 15 move tasks as closep does, 13 as closef, 14 as done: on every machine and with all operands the state behind is the same, and so is the
@@ -205,6 +205,12 @@ shown-once s d between e t n w r x = go (rw r at (shown-exactly (next s d) betwe
     go : Unshown t (next s d) between ⊎ (sets now e t ≡ true) → SetUnshown t (next s d) between ⊎ (sets now e t ≡ true)
     go (inl u) = inl (set-on-the-way clear u)
     go (inr f) = inr f
+
+-- Who runs has none pending: the answer that named it has shown it. So from the fresh machine no runner ever sets a second one; a saved state may have
+-- one pending for who runs, and then the next accepted answer that names it shows it (left-shows).
+-- Rules out: a runner that goes on with one unshown. Leaves: those who do not run (pending-is-unshown above).
+pub runner-has-none : (cs : List Command) → has (run fresh cs .pending) (running (run fresh cs .machine)) ≡ false
+runner-has-none cs = run-runner cs fresh (has-none 0)
 
 -- None is shown of idle: by no answer behind a sound state, nor behind any in which idle has none pending.
 -- Rules out: an exception of nobody that is shown while idle runs. Leaves: the others' (above).

@@ -76,10 +76,10 @@ table =
     row (waited ▸ open′ 7) 0 (failw 7 0) 0 21 0 0 0 ∷ row (equal-waits ▸ open′ 7) 0 (failw 7 0) 0 23 0 0 0 ∷
     -- none by another closing, which shows what is left
     row (on ▸ open′ 7) 0 (closep 7 1) 0 22 0 0 0 ∷ row woken (2 ^ 22) (closep 7 1) 0 22 0 1 0 ∷
-    -- a refused command sets, shows and clears none: 22 runs with one pending, which a saved state may have
+    -- a refused command sets, shows and clears none: 22 runs with one pending, as in a saved state alone (Theorems, runner-has-none)
     row on (2 ^ 22) start 3 22 0 0 (2 ^ 22) ∷ row on 0 (failp 7 1) 9 22 0 0 0 ∷ row (on ▸ open′ 7) 0 (faile 7 1) 9 22 0 0 0 ∷
     row on (2 ^ 22 + 2 ^ 23) (advance 1) 0 22 0 1 (2 ^ 23) ∷
-    -- a second one for a task with one pending keeps the older; only a saved state comes to it, too
+    -- a second one for a task with one pending keeps the older
     row (on ▸ open′ 7) (2 ^ 22) (failp 7 1) 0 22 0 1 0 ∷ row (waited ▸ open′ 7) (2 ^ 21) (failp 7 1) 0 22 22 0 (2 ^ 21) ∷
     row (equal-waits ▸ open′ 7) (2 ^ 21) (failw 7 1) 0 23 21 0 (2 ^ 21) ∷ row (waited ▸ open′ 7) (2 ^ 22) (failw 7 1) 0 22 22 1 0 ∷ []
 
