@@ -1,3 +1,4 @@
 pub mod Tied
 pub mod Promises
 pub mod Worked
+pub mod Exceptions
