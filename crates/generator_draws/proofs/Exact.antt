@@ -12,6 +12,7 @@ use borrow.Author.Tests.{eqb-true, ne-eqb, leb-true, le-leb, ltb-false, not-fals
 use Rattle.rules.specs.declared.Kind.the-variants.{Delaying, Opening, Entering}
 use Rattle.rules.specs.Line.{at, count, empty, within}
 use Rattle.rules.specs.Machine.{Machine, Command, runner, declared, empty-handed, for-open, for-entry}
+use Rattle.rules.specs.declared.Whose.the-variants.{Nobody}
 use Rattle.rules.specs.Kinds.{ends}
 use Rattle.rules.specs.Refusals.{refusal, holds-so}
 use Rattle.rules.proofs.Words.{cmd}
@@ -75,16 +76,16 @@ module _ (m : Machine) (s : Sound m) (on : m .started ≡ true) (span : ℕ) (fi
       let p = check-passed m (cmd 7 a b v) Opening refl ok in
       takes a (both-true (within 1 7 a) (eqb b 0) (both-true (within 1 7 a && eqb b 0) (eqb v 0) (not-false _ (p 4)) .0) .0) (p 6) (p 10) (p 11) (p 7) (p 8)
   back (suc (suc (suc (suc zero)))) a b v k h f ok =
-      let p = check-passed m (cmd 8 a b v) (ends for-open true) refl ok in
+      let p = check-passed m (cmd 8 a b v) (ends for-open true Nobody) refl ok in
       within-it a for-open (both-true (within 1 7 a) (leb b 1) (both-true (within 1 7 a && leb b 1) (eqb v 0) (not-false _ (p 4)) .0) .0) (p 9)
   back (suc (suc (suc (suc (suc zero))))) a b v k h f ok =
-      let p = check-passed m (cmd 9 a b v) (ends for-open false) refl ok in
+      let p = check-passed m (cmd 9 a b v) (ends for-open false Nobody) refl ok in
       within-it a for-open (both-true (within 1 7 a) (eqb b 0) (both-true (within 1 7 a && eqb b 0) (eqb v 0) (not-false _ (p 4)) .0) .0) (p 9)
   back (suc (suc (suc (suc (suc (suc zero)))))) a b v k h f ok =
       let p = check-passed m (cmd 10 a b v) Entering refl ok in
       takes a (both-true (within 1 7 a) (leb b 1) (both-true (within 1 7 a && leb b 1) (eqb v 0) (not-false _ (p 4)) .0) .0) (p 6) (p 10) (p 11) (p 7) (p 8)
   back (suc (suc (suc (suc (suc (suc (suc zero))))))) a b v k h f ok =
-      let p = check-passed m (cmd 11 a b v) (ends for-entry true) refl ok in
+      let p = check-passed m (cmd 11 a b v) (ends for-entry true Nobody) refl ok in
       within-it a for-entry (both-true (within 1 7 a) (leb b 1) (both-true (within 1 7 a && leb b 1) (eqb v 0) (not-false _ (p 4)) .0) .0) (p 9)
   back (suc (suc (suc (suc (suc (suc (suc (suc i)))))))) a b v k h f ok = absurd (omega arith)
 

@@ -1,30 +1,44 @@
 -- What was promised of exceptions (specs/Exceptions) holds of the step that is shipped. The proofs carry the theorems of rules_exceptions over to the
 -- whole state. Assumes nothing.
 use Prim.Native.Nat.{ℕ}
-use mathlib.Core.Path.{_≡_, refl, sym, ap, _∙_, subst}
+use mathlib.Core.Path.{_≡_, refl, sym, ap, ap₂, _∙_}
 use mathlib.Core.Logic.{_≢_, _↔_, _⊎_}
 use mathlib.Core.Bool.{Bool, true, false, cond, _&&_}
 use mathlib.Core.List.{List, [], _∷_, map}
-use borrow.Author.Tests.{ne-eqb}
+use lib.Dec.{eqb}
+use borrow.Author.Tests.{eqb-true, eqb-false, eq-eqb}
+use Rattle.rules.specs.Machine.{runner}
 use Rattle.rules.specs.Machine as Rules
+use Rattle.rules.specs.declared.Whose.{Whose}
+use Rattle.rules.specs.declared.Whose.the-variants.{Nobody, Runner, Released}
+use Rattle.rules.specs.Kinds.{kind}
+use Rattle.rules.specs.Run.{accepts, released}
+use Rattle.rules.specs.Run as R
+use Rattle.rules.proofs.Words.{cmd}
 use Rattle.rules.proofs.Tests.{both-true}
-use Rattle.rules_exceptions.specs.Exceptions.{next, answer, run, fresh, sound, pending-sound}
+use Rattle.rules_exceptions.specs.Exceptions.{fails, whose-of, task-of, next, answer, run, fresh, sound, pending-sound}
 use Rattle.rules_exceptions.specs.Exceptions as X
 use Rattle.rules_exceptions.specs.Words.{sets, Unshown}
-use Rattle.rules_exceptions.proofs.Kept.{Sounds, tests-state, fresh-sound, next-sound, run-sound, idle-none}
+use Rattle.rules_exceptions.proofs.Kept.{Sounds, tests-state, fresh-sound, next-sound, run-sound, idle-none, fails-started}
 use Rattle.rules_exceptions.proofs.Theorems as theorems
 use Rattle.kernel_checks.specs.declared.Command.{Command}
 use Rattle.kernel.specs.View.{tidy}
 use Rattle.kernel.specs.View as K
-use Rattle.kernel.specs.Public.{to-rules}
+use Rattle.kernel.specs.Public.{to-rules, runningOf}
+use Rattle.kernel.specs.declared.Kernel.{Kernel}
+use Rattle.kernel.specs.declared.command.Answer as tables
+use Rattle.kernel_ready.specs.Ready.{runner-in}
+use Rattle.kernel_ready.proofs.Laws.{front-idle}
 use Rattle.kernel.specs.Public as P
 use Rattle.kernel.proofs.Round.{tests-tidy, encode-view, view-encode}
 use Rattle.kernel.proofs.Written.{encode-tidy}
 use Rattle.kernel_state.specs.declared.State.{State}
 use Rattle.kernel_state.specs.Public.{view, encode, isSound, report, shape, stepOf}
-use Rattle.kernel_state.proofs.Steps.{settles, sound-parts}
-use Rattle.promises.specs.Exceptions.{freshState, steppedState, runState, answerBehind}
-use Rattle.promises.specs.Exceptions.{FreshStateIsSound, StateStepKeepsSound, TablesMoveAlike, ShownExactly, IdleShowsNone, NoneUnset, RefusedKeepsAll}
+use Rattle.kernel_state.proofs.Steps.{together, settles, sound-parts}
+use Rattle.promises.specs.Words.{freshOf, runOf, answersOf, momentsOf}
+use Rattle.promises.specs.Exceptions.{freshState, steppedState, runState, answersState, momentsState, answerBehind, plain}
+use Rattle.promises.specs.Exceptions.{FreshStateIsSound, StateStepKeepsSound, StateRunIsSound, UnsoundStateComesBack, FreshTables, RunsMoveAlike}
+use Rattle.promises.specs.Exceptions.{ClosingsMoveAlike, SecondChangesNothing, WhoseItIs, ShownExactly, IdleShowsNone, NoneUnset, RefusedKeepsAll}
 
 -- A sound state of the rules, written, is read back as it was, and is sound.
 back : (x : X.State) → Sounds x → view (encode x) ≡ x
@@ -71,12 +85,122 @@ pub state-step-keeps-sound : StateStepKeepsSound
 unfolding stepOf
 state-step-keeps-sound s c e = rw e (written-sound (next (view s) (to-rules c)) (next-sound (view s) (stands s e .reads) (to-rules c)))
 
-pub tables-move-alike : TablesMoveAlike
-unfolding isSound
-tables-move-alike s c e =
-    let parts = both-true (P.isSound (s .kernel)) (pending-sound (s .kernel .started) (s .kernel .base) (s .pending)) (sym (sound-parts (s .kernel) (s .pending)) ∙ e) in
-    let z = settles (s .kernel) (s .pending) (to-rules c) (parts .1) in
-    (ap (λ r. r .next .kernel) (sym z), ap (λ r. r .answer .code) (sym z), ap (λ r. r .answer .running) (sym z), ap (λ r. r .answer .released) (sym z))
+pub state-run-is-sound : StateRunIsSound
+unfolding runState
+state-run-is-sound s [] e = e
+state-run-is-sound s (c ∷ cs) e = state-run-is-sound (steppedState s c .next) cs (state-step-keeps-sound s c e)
+
+pub unsound-state-comes-back : UnsoundStateComesBack
+unfolding stepOf
+unsound-state-comes-back s c e = rw e
+
+pub fresh-tables : FreshTables
+unfolding freshState freshOf encode
+fresh-tables = refl
+
+-- the kernel's step of a sound state's tables, and what is settled by its answer
+alike : (s : State) (c : Rules.Command) → isSound s ≡ true → together (s .kernel) (s .pending) c ≡ stepOf s c
+alike s c e =
+    settles (s .kernel) (s .pending) c
+    (both-true (P.isSound (s .kernel)) (pending-sound (s .kernel .started) (s .kernel .base) (s .pending)) (sym (sound-parts (s .kernel) (s .pending)) ∙ e) .1)
+
+pub runs-move-alike : RunsMoveAlike
+unfolding runState runOf answersState answersOf momentsState momentsOf
+runs-move-alike s [] e = (refl, refl, refl)
+runs-move-alike s (c ∷ cs) e =
+    let z = sym (alike s (to-rules c) e) in
+    let k : steppedState s c .next .kernel ≡ P.stepped (s .kernel) c .next = ap (λ r. r .next .kernel) z in
+    let w = runs-move-alike (steppedState s c .next) cs (state-step-keeps-sound s c e) in (
+      w .0 ∙ ap (λ x. runOf x cs) k,
+      ap₂ (λ (a : tables.Answer) (l : List tables.Answer). a ∷ l) (ap (λ r. plain (r .answer)) z) (w .1 ∙ ap (λ x. answersOf x cs) k),
+      ap (λ (l : List Kernel). s .kernel ∷ l) (w .2 ∙ ap (λ x. momentsOf x cs) k),
+    )
+
+-- the steps of a state by two commands that move its machine alike
+same-moves : (s : State) (c d : Rules.Command) → let m = view s .machine in (R.next m c ≡ R.next m d) × (R.answer m c ≡ R.answer m d)
+    → (stepOf s c .next .kernel ≡ stepOf s d .next .kernel) × (plain (stepOf s c .answer) ≡ plain (stepOf s d .answer))
+unfolding stepOf encode
+same-moves s c d w = go (isSound s)
+  where
+    x : X.State
+    x = view s
+
+    moved : K.encode (next x c .machine) ≡ K.encode (next x d .machine)
+    moved = ap K.encode (theorems.machine-moves x c ∙ (w .0 ∙ sym (theorems.machine-moves x d)))
+
+    answered : plain (report s (answer x c) .answer) ≡ plain (report s (answer x d) .answer)
+    answered =
+        ap (λ (a : R.Answer). P.answerOf (a .code) (a .running) (a .released))
+        (theorems.answers-alike x c ∙ (w .1 ∙ sym (theorems.answers-alike x d)))
+
+    go : (b : Bool)
+        → (cond b (report (encode (next x c)) (answer x c)) (report s shape) .next .kernel
+        ≡ cond b (report (encode (next x d)) (answer x d)) (report s shape) .next .kernel)
+        × (plain (cond b (report (encode (next x c)) (answer x c)) (report s shape) .answer)
+        ≡ plain (cond b (report (encode (next x d)) (answer x d)) (report s shape) .answer))
+    go true = (moved, answered)
+    go false = (refl, refl)
+
+pub closings-move-alike : ClosingsMoveAlike
+closings-move-alike =
+    let t = theorems.moves-alike in (
+      λ s a b v. same-moves s (cmd 12 a b v) (cmd 8 a b v) (t .0 (view s .machine) a b v),
+      (
+        λ s a b v. same-moves s (cmd 13 a b v) (cmd 9 a b v) (t .1 .0 (view s .machine) a b v),
+        (
+          λ s a b v. same-moves s (cmd 14 a b v) (cmd 11 a b v) (t .1 .1 .0 (view s .machine) a b v),
+          (λ s a b v. same-moves s (cmd 15 a b v) (cmd 8 a b v) (t .1 .1 .1 .0 (view s .machine) a b v), tt),
+        ),
+      ),
+    )
+
+-- the steps of a state by two commands that leave the same and answer the same
+same-steps : (s : State) (c d : Rules.Command) → (next (view s) c ≡ next (view s) d) × (answer (view s) c ≡ answer (view s) d) → stepOf s c ≡ stepOf s d
+unfolding stepOf
+same-steps s c d w =
+    ap₂ (λ (x : X.State) (a : X.Answer). cond (isSound s) (report (encode x) a) (report s shape)) (w .0) (w .1)
+
+pub second-changes-nothing : SecondChangesNothing
+unfolding view
+second-changes-nothing =
+    let t = theorems.second-changes-nothing in (
+      λ s a b v h. same-steps s (cmd 12 a b v) (cmd 8 a b v) (t .0 (view s) a b v h),
+      (
+        λ s a b v h. same-steps s (cmd 13 a b v) (cmd 9 a b v) (t .1 .0 (view s) a b v h),
+        (
+          λ s a b v h. same-steps s (cmd 14 a b v) (cmd 11 a b v) (t .1 .1 .0 (view s) a b v h),
+          (λ s a b v h. same-steps s (cmd 15 a b v) (cmd 8 a b v) (t .1 .1 .1 .0 (view s) a b v h), tt),
+        ),
+      ),
+    )
+
+-- who runs, by the tables and by the machine: the front, where it is somebody and so started
+ran : (s : State) → isSound s ≡ true → (c : Rules.Command) → accepts (view s .machine) c ≡ true → (w : Whose) → whose-of (kind c) ≡ w
+    → task-of w (runner (view s .machine)) (released (view s .machine) c) ≡ task-of w (runningOf (s .kernel)) (released (view s .machine) c)
+unfolding view K.view
+ran s e c ok Nobody q = refl
+ran s e c ok Released q = refl
+ran s e c ok Runner q = front-idle (s .kernel .ready) ∙ go (eqb (runner m) 0) refl
+  where
+    m : Rules.Machine
+    m = view s .machine
+
+    front : runner-in (s .kernel .ready) ≡ runner m
+    front = sym (front-idle (s .kernel .ready))
+
+    go : (b : Bool) → eqb (runner m) 0 ≡ b → runner-in (s .kernel .ready) ≡ cond (s .kernel .started) (runner-in (s .kernel .ready)) 0
+    go true z = rw (front ∙ eqb-true _ _ z) (sym (same-either (s .kernel .started)))
+      where
+        same-either : (b : Bool) → _≡_ {A = ℕ} (cond b 0 0) 0
+        same-either true = refl
+        same-either false = refl
+    go false z =
+        let n : fails m c ≢ 0 = rw q (eqb-false _ _ z) in
+        rw (fails-started m (stands s e .reads .machine) c ok n)
+
+pub whose-it-is : WhoseItIs
+unfolding stepOf answer
+whose-it-is s c e = rw e (λ ok. ran s e (to-rules c) (eq-eqb _ 0 ok) (whose-of (kind (to-rules c))) refl)
 
 -- the promise, of a state that is written
 shown-on : (x : X.State) → Sounds x → (cs : List Command) (d : Command) → let a = answerBehind (encode x) cs d in let t = a .running .0 in

@@ -96,8 +96,8 @@ abbrev pub WakesLeftSeen : Type 0
 WakesLeftSeen = (k : Kernel) (t r : ℕ) → isSound k ≡ true → SeenFrom k t r
 
 -- ## Who releases, and whom
--- An answer releases a task only for a Wake, a closep or a done, or one of these two by an exception. Of the ends of a
--- body that have a barrier, when accepted: with barrier 1 the task that waits on the object (0: none does), and nobody
+-- An answer releases a task only for a Wake (5), or for an end of a body that has a barrier (8, 11, 12, 14, 15). Of
+-- these ends, when accepted: with barrier 1 the task that waits on the object (0: none does), and nobody
 -- waits there any more; with barrier 0 nobody, and who waits waits on.
 -- Rules out: an entry's end that passes the waiter over, one that releases behind a shut barrier, a waiter that is
 -- named and not let go.

@@ -18,7 +18,7 @@ use Rattle.rules.specs.Kinds.{kinds, last-op, kind-at, kind}
 use Rattle.rules.specs.Table.{Out, same, take, yield, sleep, await, Rel, none, due, serve, Effect, nothing, creates, declares, begins, moves, opens}
 use Rattle.rules.specs.Table.{closing, effect-of, effect, freed, enter, release}
 use Rattle.rules.specs.Refusals.{checks-of, checks, first-number, refusal, fits, holds-so}
-use Rattle.rules.proofs.Words.{All, Among, releasing-ops}
+use Rattle.rules.proofs.Words.{All, Among, closing-ops, releasing-ops}
 use Rattle.rules.proofs.Lists.{all-map, all-few, count-place}
 use Rattle.rules.proofs.Tests.{both-true, tests-is, tests-all-below}
 use Rattle.rules.proofs.Hands.{act-held}
@@ -96,7 +96,7 @@ module _ (m : Machine) (s : Sound m) where
   still : m .clock + 0 < 2 ^ 64
   still = omega (arith, s .in-time .clock-fits)
 
-  -- What the checks of ops 4 and 7..11 leave, as far as they are alike.
+  -- What the checks of ops 4 and 7..15 leave, as far as they are alike.
   off-start : m .started ≡ false → m .started ≢ true
   off-start h e = true≢false (sym e ∙ h)
 
@@ -258,3 +258,20 @@ wake-op op e = eqb-true _ _ (rw (eq-eqb _ 1 e) at (each-op (λ n k. not (eqb (re
 pub release-op : (op : ℕ) → releasing (kind-at op) ≢ 0 → Among releasing-ops op
 unfolding all-below
 release-op op e = leb-true _ _ (rw (ne-eqb _ 0 e) at (each-op (λ n k. eqb (releasing k) 0 || leb 1 (count n releasing-ops)) refl (λ n. refl) op))
+
+-- Which ops end a body.
+abbrev ends-body : Kind → Bool
+ends-body NoKind = false
+ends-body Creating = false
+ends-body Declaring = false
+ends-body Starting = false
+ends-body Delaying = false
+ends-body Waking = false
+ends-body Advancing = false
+ends-body Opening = false
+ends-body Entering = false
+ends-body (Ending e) = true
+
+pub end-op : (op : ℕ) (e : End) → kind-at op ≡ Ending e → Among closing-ops op
+unfolding all-below
+end-op op e k = leb-true _ _ (rw (ap ends-body k) at (each-op (λ n j. not (ends-body j) || leb 1 (count n closing-ops)) refl (λ n. refl) op))

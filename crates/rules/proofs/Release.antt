@@ -259,7 +259,7 @@ released-behind m s k c n = go (step m s c)
     go (kept e f w) = absurd (n f)
     go (carried e f w g) = rw (e, f) (carried-behind m s k (effect m c) g (λ z. n (f ∙ z)))
 
--- Only a Wake, a closep or a done releases.
+-- Only a Wake, and an end of a body that has a barrier, releases.
 pub freed-of : (e : Effect) (m : Machine) → freed-by e m ≡ front 0 (freed (rel-of e) m)
 freed-of nothing m = refl
 freed-of (creates t p) m = refl

@@ -13,6 +13,8 @@ use borrow.Author.Tests.{ne-eqb}
 use Rattle.rules.specs.Line.{at, front, neighbours}
 use Rattle.rules.specs.Machine.{Machine, Command, fresh, last-opened, runner, running}
 use Rattle.rules.specs.declared.Kind.{Kind}
+use Rattle.rules.specs.declared.End.{End}
+use Rattle.rules.specs.Kinds.{kind-at}
 use Rattle.rules.specs.declared.Kind.the-variants.{NoKind, Creating, Declaring, Starting, Delaying, Waking, Advancing, Opening, Entering, Ending}
 use Rattle.rules.specs.Refusals.{behind-range, refusal}
 use Rattle.rules.specs.Sound.{sound}
@@ -25,6 +27,7 @@ use Rattle.rules.proofs.Step.{next-sound, run-sound, fresh-test, fresh-
 use Rattle.rules.proofs.Wakes.{a-wake, keeps-its-turn, at-wake, left-is-due, due-is-left, question-left, left-question, wakes-in-row, row-of-wakes}
 use Rattle.rules.proofs.Wakes.{wake-takes-due}
 use Rattle.rules.proofs.Clear.{next-clear, run-clear, fresh-clear}
+use Rattle.rules.proofs.Accepted.{end-op}
 use Rattle.rules.proofs.Release.{released-behind, released-based, released-by, lower-runs, first-moment}
 use Rattle.rules.proofs.Goes.{closed-holds-nothing, closing-serves, served-waits-no-more, shut-keeps-waiters}
 
@@ -131,12 +134,16 @@ ahead-of-a-holder before =
     pairwise-map {P = λ x. Unit {0}} (λ a b u v w n. rw (act-held m b n) at (w n)) (m .ready) (all-every (λ x. tt) (m .ready))
     (run-clear before fresh fresh-sound fresh-clear)
 
--- An accepted closing (closep, closef, done, and those by an exception) leaves the runner's hands empty: what the promise below calls "closed" is "no longer held".
+-- An accepted closing (8, 9, 11, and 12 to 15, by an exception) leaves the runner's hands empty: what the promise below calls "closed" is
+-- "no longer held". The list of closings has every end of a body (closings-all).
 -- Rules out: closings that do nothing, or that keep the object. Leaves: whom a closing releases (below); a machine that accepts none, as one that never
 -- starts (the walk).
 pub closing-empties : (before : List Command) (c : Command) → let m = run fresh before in
     accepts m c ≡ true → Among closing-ops (c .op) → Free (next m c) (runner m)
 closing-empties before c ok op = closed-holds-nothing (run fresh before) (run-sound before fresh fresh-sound) c ok op
+
+pub closings-all : (op : ℕ) (e : End) → kind-at op ≡ Ending e → Among closing-ops op
+closings-all = end-op
 
 -- ## The order of the checks
 -- Behind Range each kind's checks stand in document 01's order: 2 or 3, then 5 to 13, each number above the one before it. So the first that holds
@@ -155,7 +162,7 @@ checks-in-order Entering m c = refl
 checks-in-order (Ending e) m c = refl
 
 -- ## Who is served
--- An accepted closep or done, or either by an exception, with barrier 1 releases the task that waits on its object (0: none does), and nobody waits there any more; with
+-- An accepted 8, 11, 12, 14 or 15 with barrier 1 releases the task that waits on its object (0: none does), and nobody waits there any more; with
 -- barrier 0 it releases nobody, and who waits waits on. So no end of a body with an open barrier leaves a task waiting on its object:
 -- `done` looks at the waiter as closep does.
 -- Rules out: an entry's end that passes the waiter over, one that releases behind a shut barrier, a waiter that is named and not let go.

@@ -10,13 +10,9 @@ use Rattle.rules.specs.declared.Whose.{Whose}
 use Rattle.rules.specs.declared.Whose.the-variants.{Nobody, Runner, Released}
 use Rattle.rules.specs.Machine.{Command, for-open, for-entry}
 
--- The end of a body that is held in that way, which serves who waits or does not: without an exception; and by one,
--- which is the runner's or the released task's.
-abbrev pub ends : ℕ → Bool → Kind
-ends way serves = Ending (record { way = way; serves = serves; whose = Nobody })
-
-abbrev pub fails : ℕ → Bool → Whose → Kind
-fails way serves whose = Ending (record { way = way; serves = serves; whose = whose })
+-- The end of a body: the way in which its object is held, whether a barrier serves who waits, whose exception is set.
+abbrev pub ends : ℕ → Bool → Whose → Kind
+ends way serves whose = Ending (record { way = way; serves = serves; whose = whose })
 
 -- The kind of each op 1..15; no other number is an op.
 abbrev pub kinds : List Kind
@@ -29,14 +25,14 @@ kinds =
     Waking ∷  -- 5 wake
     Advancing ∷  -- 6 advance
     Opening ∷  -- 7 open
-    ends for-open true ∷  -- 8 closep
-    ends for-open false ∷  -- 9 closef
+    ends for-open true Nobody ∷  -- 8 closep
+    ends for-open false Nobody ∷  -- 9 closef
     Entering ∷  -- 10 entry
-    ends for-entry true ∷  -- 11 done (its barrier is request 2's)
-    fails for-open true Runner ∷  -- 12 failp: closep by an exception (12..15 are request 6's)
-    fails for-open false Runner ∷  -- 13 failf: closef by one
-    fails for-entry true Runner ∷  -- 14 faile: done by one
-    fails for-open true Released ∷ []  -- 15 failw: closep; the waiter's entry body failed meanwhile
+    ends for-entry true Nobody ∷  -- 11 done (its barrier is request 2's)
+    ends for-open true Runner ∷  -- 12 failp: closep by an exception (12..15 are request 6's)
+    ends for-open false Runner ∷  -- 13 failf: closef by one
+    ends for-entry true Runner ∷  -- 14 faile: done by one
+    ends for-open true Released ∷ []  -- 15 failw: closep; the waiter's entry body failed meanwhile
 
 -- the last op
 abbrev pub last-op : ℕ

@@ -39,7 +39,8 @@ pub record Machine : Type 0 where
   pub clock : ℕ
   pub started : Bool
 
--- held for a procedure or function (7 begins it, 8 and 9 end it), or for an entry (10 begins it, 11 ends it)
+-- held for a procedure or function (7 begins it; 8, 9, 12, 13 and 15 end it), or for an entry (10 begins it; 11 and 14
+-- end it)
 abbrev pub for-open : ℕ
 for-open = 1
 

@@ -69,7 +69,7 @@ holds-so m o w = eqb (last-opened m (runner m)) o && eqb (way-held m (runner m))
 abbrev range : Kind → Command → Bool × ℕ
 range k c = (not (formed-as k c), 4)
 
--- 2 Early: [ops 4..11 or a draw] before Start
+-- 2 Early: [ops 4..15 or a draw] before Start
 abbrev early : Machine → Bool × ℕ
 early m = (not (m .started), 2)
 
@@ -88,7 +88,7 @@ object-taken m c = (declared m (c .a), 5)
 abbrev missing : Machine → Command → Bool × ℕ
 missing m c = (not (declared m (c .a)), 6)
 
--- 7 Idle: [ops 4 and 7..11] while task 0 runs
+-- 7 Idle: [ops 4 and 7..15] while task 0 runs
 abbrev idle : Machine → Bool × ℕ
 idle m = (eqb (runner m) 0, 7)
 
@@ -96,8 +96,8 @@ idle m = (eqb (runner m) 0, 7)
 abbrev inside : Machine → Bool × ℕ
 inside m = (not (empty-handed m (runner m)), 8)
 
--- 9 Outside: closing an object the runner does not hold, or holds in the other way (8, 9 end an open; 11 ends an
--- entry)
+-- 9 Outside: closing an object the runner does not hold, or holds in the other way (8, 9, 12, 13
+-- and 15 end an open; 11 and 14 end an entry)
 abbrev outside : ℕ → Machine → Command → Bool × ℕ
 outside way m c = (not (holds-so m (c .a) way), 9)
 

@@ -1,4 +1,4 @@
--- The op table of document 01, with request 2's `done`: what each command does when it is accepted.
+-- The op table of document 01, with request 2's `done` and request 6's closings by an exception: what each command does when it is accepted.
 -- A row says what is asked for, as an Effect; one function, carry, does it.
 use Prim.Native.Nat.{ℕ, _+_}
 use mathlib.Core.Bool.{Bool, true, cond, not, _&&_}
@@ -73,7 +73,8 @@ effect-of Opening m c = moves (take (c .a) for-open) none 0
 -- 10 entry a=object b=barrier: b 1: the runner holds it, for an entry, whoever waits. b 0: the runner leaves the line
 -- and waits on the object
 effect-of Entering m c = moves (cond (eqb (c .b) 1) (take (c .a) for-entry) (await (c .a))) none 0
--- 8 closep, 9 closef and 11 done: the end of a body, which serves by its barrier or has none
+-- 8 closep, 9 closef, 11 done, and 12 to 15, which end it by an exception: the end of a body, which serves by its
+-- barrier or has none
 effect-of (Ending e) m c = closing (e .serves) c
 
 abbrev pub effect : Machine → Command → Effect

@@ -21,7 +21,7 @@ use Rattle.rules.proofs.Tests.{both-true}
 use Rattle.rules.proofs.Accepted.{each-op}
 use Rattle.rules_exceptions.specs.Exceptions.{State, has, raised, cleared, fails, whose-of, task-of, told, next, Answer, answer, run, answers}
 use Rattle.rules_exceptions.specs.Exceptions.{fresh, sound}
-use Rattle.rules_exceptions.specs.Words.{names, sets, Silent, Unshown, from-start, set-by, SetUnshown}
+use Rattle.rules_exceptions.specs.Words.{matching, names, sets, Silent, Unshown, from-start, set-by, SetUnshown}
 use Rattle.rules_exceptions.proofs.Bits.{has-none, has-set, has-idle, raised-kept}
 use Rattle.rules_exceptions.proofs.Kept.{tests-state, idle-none, fresh-sound, next-sound, run-sound}
 use Rattle.rules_exceptions.proofs.Shown.{step-has, run-idle, run-runner, pending-unshown, set-on-the-way}
@@ -33,7 +33,7 @@ use Rattle.rules_exceptions.proofs.Shown.{step-has, run-idle, run-runne
 pub moves-alike :
     All {A = ℕ × ℕ} (λ x. (m : Machine) (a b v : ℕ)
     → (R.next m (cmd (x .0) a b v) ≡ R.next m (cmd (x .1) a b v)) × (R.answer m (cmd (x .0) a b v) ≡ R.answer m (cmd (x .1) a b v)))
-    ((12, 8) ∷ (13, 9) ∷ (14, 11) ∷ (15, 8) ∷ [])
+    matching
 unfolding R.next R.released R.answer refusal
 moves-alike = (λ m a b v. (refl, refl), (λ m a b v. (refl, refl), (λ m a b v. (refl, refl), (λ m a b v. (refl, refl), tt))))
 
@@ -71,7 +71,8 @@ all-answers-alike (c ∷ cs) s =
     ap₂ (λ (a : R.Answer) (l : List R.Answer). a ∷ l) (answers-alike s c)
     (all-answers-alike cs (next s c) ∙ ap (λ (m : Machine). R.answers m cs) (machine-moves s c))
 
--- So whatever holds of the machine behind every run holds of it beside its pending exceptions: both long promises of the rules, and all the others.
+-- So whatever holds of the machine behind a run holds of it beside its pending exceptions. (Of all answers and moments of a run of the shipped step:
+-- promises/proofs/Exceptions, runs-move-alike.)
 pub promised-still : (P : Machine → Type 0) (s : State) (cs : List Command) → P (R.run (s .machine) cs) → P (run s cs .machine)
 promised-still P s cs p = subst P (sym (runs-alike cs s)) p
 
@@ -113,14 +114,27 @@ set-by-these m c n = go (whose-of (kind c)) (each-op (λ op k. nobodys (whose-of
     go Runner e n = leb-true _ _ e
     go Released e n = leb-true _ _ e
 
--- One for nobody changes nothing; nor does one for a task with one pending, which keeps the older. (`told` is what is pending when the answer is given:
--- the answer and the state behind go by it.)
+-- One for nobody changes nothing; nor does one for a task with one pending, which keeps the older: then 12, 13, 14 and 15 leave the very state, and
+-- give the very answer, that 8, 9, 11 and 8 do.
 -- Rules out: a second that is counted, or is set for another task. Leaves: that the older is shown (below).
 pub nobodys-changes-nothing : (s : State) (c : Command) → fails (s .machine) c ≡ 0 → told s c ≡ s .pending
 nobodys-changes-nothing s c e = ap (raised (s .pending)) e
 
-pub second-changes-nothing : (s : State) (c : Command) → has (s .pending) (fails (s .machine) c) ≡ true → told s c ≡ s .pending
-second-changes-nothing s c e = raised-kept (s .pending) (fails (s .machine) c) e
+pub second-changes-nothing :
+    All {A = ℕ × ℕ} (λ x. (s : State) (a b v : ℕ) → has (s .pending) (fails (s .machine) (cmd (x .0) a b v)) ≡ true
+    → (next s (cmd (x .0) a b v) ≡ next s (cmd (x .1) a b v)) × (answer s (cmd (x .0) a b v) ≡ answer s (cmd (x .1) a b v)))
+    matching
+unfolding next answer R.next R.released refusal
+second-changes-nothing = (
+  λ s a b v h. rw (raised-kept (s .pending) (runner (s .machine)) h) (refl, refl),
+  (
+    λ s a b v h. rw (raised-kept (s .pending) (runner (s .machine)) h) (refl, refl),
+    (
+      λ s a b v h. rw (raised-kept (s .pending) (runner (s .machine)) h) (refl, refl),
+      (λ s a b v h. rw (raised-kept (s .pending) (released (s .machine) (cmd 15 a b v)) h) (refl, refl), tt),
+    ),
+  ),
+)
 
 -- A refused command sets none, shows none and clears none.
 -- Rules out: a refusal that shows, or drops, the runner's. Leaves: which commands are refused (the rules).
@@ -134,8 +148,8 @@ refused-keeps s c n = rw (ne-eqb (refusal (s .machine) c) 0 n) (refl, refl)
 pub pending-is-unshown : (s : State) (cs : List Command) (t : ℕ) → t ≢ 0 → (has (run s cs .pending) t ≡ true) ↔ Unshown t s cs
 pending-is-unshown s cs t n = pending-unshown t n cs s
 
--- The answer of d, behind any run, shows one of the running task t exactly where it is accepted, and one was set for t, by d itself or before, that no
--- accepted answer since has named t.
+-- The answer of d, behind any run, shows one of the running task t exactly where it is accepted, and one was set for t, by d itself or before, or was
+-- pending at the start, and no accepted answer since then names t.
 -- Rules out: one that is shown twice, never, to another task, on a refusal, or an answer late. Leaves: whose it is (whose-exception above).
 pub shown-exactly : (s : State) (cs : List Command) (d : Command) → let a = answer (run s cs) d in let t = a .running in
     t ≢ 0 → (a .exception ≡ true) ↔ ((a .code ≡ 0) × (Unshown t s cs ⊎ (sets (run s cs) d t ≡ true)))

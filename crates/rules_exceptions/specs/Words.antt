@@ -9,11 +9,15 @@ use Rattle.rules.specs.Run.{accepts}
 use Rattle.rules.specs.Run as R
 use Rattle.rules_exceptions.specs.Exceptions.{State, has, fails, next, run}
 
+-- The ops that end a body by an exception, each with the op that moves tasks alike.
+abbrev pub matching : List (ℕ × ℕ)
+matching = (12, 8) ∷ (13, 9) ∷ (14, 11) ∷ (15, 8) ∷ []
+
 -- The command is accepted, and its answer names t as running.
 abbrev pub names : State → Command → ℕ → Bool
 names s c t = accepts (s .machine) c && eqb (running (R.next (s .machine) c)) t
 
--- The command is accepted, and sets an exception for t.
+-- The command is accepted, and sets an exception for task t, which is not 0.
 abbrev pub sets : State → Command → ℕ → Bool
 sets s c t = accepts (s .machine) c && eqb (fails (s .machine) c) t
 
