@@ -8,10 +8,16 @@ use prog.Routine.{Routine}
 use prog.Wp.{Heap}
 use ghost.Atoms.{Atoms}
 use contract.Monad.{Fun}
-use Rattle.one_answer.proofs.Law.{OneAnswer, one}
+use denote.Ref.{now}
+use Rattle.one_answer.proofs.Law.{OneAnswer, OneEnd, one, both, each-of-two}
+use Rattle.kernel.specs.Lent.{tables}
+use Rattle.kernel_state.specs.declared.State.{State}
+use Rattle.kernel_state.specs.declared.Answer.{Answer}
+use Rattle.kernel_state.specs.Public.{both as whole}
 use Rattle.kernel_state.proofs.whose
 use Rattle.kernel_state.proofs.settle
 use Rattle.kernel_state.proofs.bits.pending_sound
+use Rattle.kernel_state.proofs.in_place.step as in-place-step
 use Rattle.kernel_state.proofs.State.fresh
 use Rattle.kernel_state.proofs.State.sound
 use Rattle.kernel_state.proofs.State.step
@@ -26,6 +32,17 @@ module _ {M : Type 1} (𝓤 : URA M) (H : Heap 𝓤) (A : Atoms 𝓤) (mem : Mem
 
   pub pending-sound-single : OneAnswer 𝓤 pending_sound.ended (pending_sound.clauses 𝓤 H A mem run)
   pending-sound-single κs a g r s d e = one 𝓤 _ _ _
+
+  pub in-place-step-single : OneEnd 𝓤 in-place-step.ended (in-place-step.clauses 𝓤 H A mem run) (State × Answer)
+      (λ κs r e. (
+        whole
+            (tables (now (e .0)) (now (e .1 .0)) (now (e .1 .1 .0)) (now (e .1 .1 .1 .0)) (now (e .1 .1 .1 .1 .0)) (now (e .1 .1 .1 .1 .1 .0))
+            (now (e .1 .1 .1 .1 .1 .1 .0)) (now (e .1 .1 .1 .1 .1 .1 .1 .0)) (now (e .1 .1 .1 .1 .1 .1 .1 .1 .0))
+            (now (e .1 .1 .1 .1 .1 .1 .1 .1 .1 .0)))
+            (now (e .1 .1 .1 .1 .1 .1 .1 .1 .1 .1 .0)),
+        r,
+      ))
+  in-place-step-single κs a g r s d e = both 𝓤 _ _ _ each-of-two
 
   pub fresh-single : OneAnswer 𝓤 fresh.ended (fresh.clauses 𝓤 H A mem run)
   fresh-single κs a g r s d e = one 𝓤 _ _ _

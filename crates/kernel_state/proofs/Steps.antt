@@ -7,6 +7,7 @@ use mathlib.Core.Bool.{Bool, true, false, cond, _&&_, and-false}
 use lib.Dec.{eqb, ltb}
 use borrow.Author.Tests.{eqb-true, eqb-false, lt-ltb}
 use Rattle.rules.specs.Machine.{Machine, Command, runner, running}
+use Rattle.rules.specs.declared.Whose.{Whose}
 use Rattle.rules.specs.Kinds.{kind}
 use Rattle.rules.specs.Refusals.{refusal}
 use Rattle.rules.specs.Run.{accepts, released}
@@ -22,15 +23,16 @@ use Rattle.kernel.specs.View as K
 use Rattle.kernel.specs.Public as P
 use Rattle.kernel_ready.specs.Ready.{runner-in}
 use Rattle.kernel_ready.proofs.Laws.{front-idle}
+use Rattle.kernel.specs.declared.command.Answer as tables
+use Rattle.kernel_line.specs.declared.TaskID.{TaskID}
+use Rattle.kernel_ready.specs.Ready.{task}
 use Rattle.kernel_state.specs.declared.Stepped.{Stepped}
+use Rattle.kernel_state.specs.declared.Answer.{Answer}
+use Rattle.kernel_state.specs.declared.Settled.{Settled}
 use Rattle.kernel_state.specs.Settle.{set-for, settled}
-use Rattle.kernel_state.specs.Public.{view, encode, isSound, report, shape, stepOf, leftOf}
-use Rattle.kernel_state.specs.declared.State as whole
+use Rattle.kernel_state.specs.Public.{both, view, encode, isSound, answerOf, report, ends, shape, stepOf, leftOf}
 
--- A state of the tables and what is pending; and the two steps together.
-abbrev pub both : Kernel → ℕ → whole.State
-both k p = record { kernel = k; pending = p }
-
+-- The two steps together.
 abbrev pub together : Kernel → ℕ → Command → Stepped
 together k p c =
     let r = P.stepOf k c in
@@ -82,6 +84,16 @@ settles k p c h = go (P.isSound k) (accepts (K.view k) c) refl refl
     go true true e a = rw (sound-parts k p, e, h, a, ran k, fails-few m (stands k e) c)
     go true false e a = rw (sound-parts k p, e, h, a, unmoved m c a)
     go false ok e a = rw (sound-parts k p, e)
+
+-- The same from what the parts of the code answer: the kernel's step, whose it is, who ran, what is settled, and the answer that is made of it.
+pub made-of : (k : Kernel) (p : ℕ) (c : Command) → pending-sound (k .started) (k .base) p ≡ true
+    → (behind : Kernel) (said : tables.Answer) (w : Whose) (closer : TaskID) (s : Settled) (a : Answer)
+    → behind ≡ P.stepOf k c .next → said ≡ P.stepOf k c .answer → w ≡ whose-of (kind c) → closer ≡ task (runner-in (k .ready))
+    → s ≡ settled p w (closer .0) said → a ≡ answerOf (said .code) (said .running .0) (said .released .0) (s .exception)
+    → ends (both behind (s .pending)) a (stepOf (both k p) c)
+made-of k p c h behind said w closer s a next-is said-is whose-is ran-is settled-is answer-is =
+    let z = settles k p c h in
+    rw (answer-is, settled-is, next-is, said-is, whose-is, ran-is) (ap (λ r. r .next) z, ap (λ r. r .answer) z)
 
 -- What is pending and not sound: Shape.
 pub step-unsound : (k : Kernel) (p : ℕ) (c : Command) → pending-sound (k .started) (k .base) p ≡ false → report (both k p) shape ≡ stepOf (both k p) c

@@ -5,7 +5,7 @@ ghost use Rattle.rules.specs.Kinds.{kind};
 ghost use Rattle.rules_exceptions.specs.Exceptions.{whose-of, task-of, fresh};
 ghost use Rattle.kernel.specs.Public.{to-rules};
 ghost use Rattle.kernel_state.specs.Settle.{settled};
-ghost use Rattle.kernel_state.specs.Public.{encode, isSound, stepOf, leftOf, report, shape};
+ghost use Rattle.kernel_state.specs.Public.{encode, isSound, stepOf, leftOf};
 use kernel::Command;
 use kernel::Kernel;
 use kernel::Left;
@@ -14,6 +14,7 @@ use kernel_checks::Kind;
 use kernel_checks::Whose;
 
 mod bits;
+pub mod in_place;
 
 pub use bits::pending_sound;
 
@@ -106,47 +107,50 @@ impl State {
         tables & pending_sound(&base, kernel.started, self.pending)
     }
 
-    // Shape: 1, 0, 0, no exception, and the state as it is.
-    fn refused(self) -> Stepped
-        ensures { λ r. ⌜ r ≡ report self shape ⌝ }
-    {
-        let answer = Answer {
-            code: 1,
-            running: TaskID(0),
-            released: TaskID(0),
-            exception: false,
-        };
-        Stepped { next: self, answer }
-    }
-
     // A state that is not sound is answered 1, 0, 0 and comes back as it is; a refused command its number and the same
     // state.
     pub fn step(self, c: Command) -> Stepped
         ensures { λ r. ⌜ r ≡ stepOf self (to-rules c) ⌝ }
     {
-        let kernel = self.kernel;
-        let base = kernel.base;
-        if !pending_sound(&base, kernel.started, self.pending) {
-            return self.refused();
-        }
-        let ready = kernel.ready;
-        let closer = kernel_ready::runner(&ready);
-        let stepped = kernel.step(c);
-        let said = stepped.answer;
-        let s = settle(self.pending, whose(c), closer, said);
-        let running = said.running;
-        let released = said.released;
-        let behind = stepped.next;
-        let next = State {
-            kernel: behind,
-            pending: s.pending,
+        let old = self.kernel;
+        let mut base = old.base;
+        let mut ready = old.ready;
+        let mut delayed = old.delayed;
+        let mut held = old.held;
+        let mut way = old.way;
+        let mut until = old.until;
+        let mut ceiling = old.ceiling;
+        let mut waiter = old.waiter;
+        let mut clock = old.clock;
+        let mut started = old.started;
+        let mut pending = self.pending;
+        let answer = in_place::step(
+            &mut base,
+            &mut ready,
+            &mut delayed,
+            &mut held,
+            &mut way,
+            &mut until,
+            &mut ceiling,
+            &mut waiter,
+            &mut clock,
+            &mut started,
+            &mut pending,
+            c,
+        );
+        let kernel = Kernel {
+            base,
+            ready,
+            delayed,
+            held,
+            way,
+            until,
+            ceiling,
+            waiter,
+            clock,
+            started,
         };
-        let answer = Answer {
-            code: said.code,
-            running,
-            released,
-            exception: s.exception,
-        };
+        let next = State { kernel, pending };
         Stepped { next, answer }
     }
 
