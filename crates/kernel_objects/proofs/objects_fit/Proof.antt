@@ -2,12 +2,12 @@
 use Prim.Native.Nat.{_-_, _≤_}
 use mathlib.Core.Path.{_≡_, refl}
 use native.Mathlib.Omega.{arith}
 use Rattle.kernel_cells.proofs.Loops.{gather}
 use Rattle.kernel_cells.specs.Cells.{objectsFit, objectFits}
 use Rattle.rules.specs.Line.{at, all-below}
 use borrow.Author.Needs.{needs}
-use Rattle.kernel_cells.proofs.objects_fit.Statement.{statement}
-use Rattle.kernel_cells.proofs.objects_fit.Tie as tie
+use Rattle.kernel_objects.proofs.objects_fit.Statement.{statement}
+use Rattle.kernel_objects.proofs.objects_fit.Tie as tie
 
 abbrev Inv-loop : tie.InvT-loop
 Inv-loop base ceiling waiter fit₀ o₀ fit o = (o ≤ 8) × (fit ≡ all-below o (λ o. objectFits o (at ceiling o) (at waiter o) (at base (at waiter o))))

@@ -1,7 +1,7 @@
 -- `object_fits` meets its contract. Assumes nothing.
 use borrow.Author.Needs.{needs}
-use Rattle.kernel_cells.proofs.object_fits.Statement.{statement}
-use Rattle.kernel_cells.proofs.object_fits.Tie as tie
+use Rattle.kernel_objects.proofs.object_fits.Statement.{statement}
+use Rattle.kernel_objects.proofs.object_fits.Tie as tie
 
 admits-requires : tie.Need-admits-requires
 admits-requires c κs = search needs
