@@ -10,7 +10,7 @@ use borrow.Author.Tests.{eq-eqb, ne-eqb, eqb-false}
 use lib.Dec.{eqb}
 use lib.ListN.{length, take, drop, getD, List·getD-append, List·getD-eq-default, length-append, length-drop, take-append-drop}
 use lib.Seq.{length-take-le, getD-take, getD-append-add, take-all, drop-drop}
-use Rattle.tape.proofs.Reading.{sixteen}
+use Rattle.tape_form.proofs.Reading.{sixteen}
 use Rattle.kernel.specs.View.{pad}
 use Rattle.kernel.proofs.Padded.{pad-size}
 use Rattle.judge_onward.specs.declared.Run.{Run}

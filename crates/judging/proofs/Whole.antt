@@ -21,11 +21,11 @@ use Rattle.kernel.specs.View.{encode, pad}
 use Rattle.kernel.proofs.Whole.{stepped-tie}
 use Rattle.record.specs.declared.Record.{Record}
 use Rattle.record.specs.Form.{recordOf}
-use Rattle.tape.specs.declared.Read.{Read}
-use Rattle.tape.specs.declared.Read.the-variants.{Found, End, Refused}
-use Rattle.tape.specs.Read.{numberOf, readOf, judged, endOf, placeOf, nextAt}
-use Rattle.tape.specs.Run.{answers}
-use Rattle.tape.proofs.Reading.{Stands, stands, found, end, no-record, no-seed, sixteen, read-end, read-short, read-judged}
+use Rattle.tape_form.specs.declared.Read.{Read}
+use Rattle.tape_form.specs.declared.Read.the-variants.{Found, End, Refused}
+use Rattle.tape_form.specs.Read.{numberOf, readOf, judged, endOf, placeOf, nextAt}
+use Rattle.tape_form.specs.Run.{answers}
+use Rattle.tape_form.proofs.Reading.{Stands, stands, found, end, no-record, no-seed, sixteen, read-end, read-short, read-judged}
 use Rattle.judge_verdict.specs.declared.Verdict.{Verdict}
 use Rattle.judge_verdict.specs.declared.Verdict.the-variants.{Agrees, Refused as Malformed}
 use Rattle.judge_verdict.specs.declared.Judgement.{Judgement}

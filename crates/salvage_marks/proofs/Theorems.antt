@@ -12,7 +12,7 @@ use Rattle.rules.specs.Line.{joined}
 use Rattle.record.specs.Form.{bytesOf}
 use Rattle.record.specs.Fault.{faultOf}
 use Rattle.record.specs.declared.Record.{Record}
-use Rattle.tape.specs.Run.{tapeOf, Takes, answers, foundAll}
+use Rattle.tape_form.specs.Run.{tapeOf, Takes, answers, foundAll}
 use Rattle.salvage_marks.specs.declared.Salvaged.{Salvaged}
 use Rattle.salvage_marks.specs.declared.Torn.{Torn}
 use Rattle.salvage_marks.specs.declared.Fed.{Fed}

@@ -12,10 +12,10 @@ use native.Mathlib.Omega.{arith}
 use lib.ListN.{length, take, drop, length-drop}
 use lib.Seq.{length-take-le}
 use Rattle.record.specs.declared.Record.{Record}
-use Rattle.tape.specs.Read.{readOf, sizeOf, startOf, placeOf, partAt, startAt, nextAt}
-use Rattle.tape.specs.declared.Read.{Read}
-use Rattle.tape.specs.declared.Read.the-variants.{Found, End, Refused}
-use Rattle.tape.proofs.Reading.{Stands, stands, found, end, no-record, no-seed}
+use Rattle.tape_form.specs.Read.{readOf, sizeOf, startOf, placeOf, partAt, startAt, nextAt}
+use Rattle.tape_form.specs.declared.Read.{Read}
+use Rattle.tape_form.specs.declared.Read.the-variants.{Found, End, Refused}
+use Rattle.tape_form.proofs.Reading.{Stands, stands, found, end, no-record, no-seed}
 
 -- the four answers
 pub data OneOfFour : Read → Type 0 where

@@ -12,9 +12,9 @@ use Rattle.record.specs.declared.Record.{Record}
 use Rattle.record.specs.Form.{recordOf, marked, headerFields, commandFields, isSeed}
 use Rattle.record.specs.Fault.{faultOf}
 use Rattle.record.proofs.Faults.{bytesFault, number, Number, numbered, right, wrong, unseeded}
-use Rattle.tape.specs.Read.{judged, endOf, readOf, sizeOf, startOf, partAt, startAt}
-use Rattle.tape.specs.declared.Read.{Read}
-use Rattle.tape.specs.declared.Read.the-variants.{Found, End, Refused}
+use Rattle.tape_form.specs.Read.{judged, endOf, readOf, sizeOf, startOf, partAt, startAt}
+use Rattle.tape_form.specs.declared.Read.{Read}
+use Rattle.tape_form.specs.declared.Read.the-variants.{Found, End, Refused}
 
 -- reader and writer judge alike
 pub judged-fault : (at : ℕ) (p : List ℕ) → judged at p ≡ cond (eqb (bytesFault at p) 0) (Found (recordOf p) (at + 16)) (Refused (bytesFault at p))

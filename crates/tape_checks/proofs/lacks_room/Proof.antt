@@ -3,9 +3,9 @@ use mathlib.Core.Path.{sym}
 use Prim.Native.Nat.{_+_}
 use native.Mathlib.Omega.{arith}
 use borrow.Author.Tests.{lt-ltb}
-use Rattle.tape.proofs.Writing.{room-same}
-use Rattle.tape.proofs.lacks_room.Statement.{statement}
-use Rattle.tape.proofs.lacks_room.Tie as tie
+use Rattle.tape_form.proofs.Writing.{room-same}
+use Rattle.tape_checks.proofs.lacks_room.Statement.{statement}
+use Rattle.tape_checks.proofs.lacks_room.Tie as tie
 
 returns : tie.Need-returns
 returns c = sym (lt-ltb (c .before .args .n) (c .before .args .at + 16) (omega arith))

@@ -21,12 +21,12 @@ use Rattle.record.specs.Form.{bytesOf, recordOf, commandFields, isEdition, head
 use Rattle.record.specs.Fault.{faultOf}
 use Rattle.record.proofs.RoundTrip.{fields-back, bytes-spelt, sixteen-long, value-kept}
 use Rattle.record.proofs.Faults.{own-fault, unfaulted}
-use Rattle.tape.specs.Write.{writeCode, writeOf}
-use Rattle.tape.specs.Read.{judged, readOf, partAt}
-use Rattle.tape.specs.declared.Read.{Read}
-use Rattle.tape.specs.declared.Read.the-variants.{Found}
-use Rattle.tape.proofs.Writing.{accepted, accepts}
-use Rattle.tape.proofs.Reading.{judged-is, read-judged, sixteen, Stands, stands, found, end, no-record, no-seed}
+use Rattle.tape_form.specs.Write.{writeCode, writeOf}
+use Rattle.tape_form.specs.Read.{judged, readOf, partAt}
+use Rattle.tape_form.specs.declared.Read.{Read}
+use Rattle.tape_form.specs.declared.Read.the-variants.{Found}
+use Rattle.tape_form.proofs.Writing.{accepted, accepts}
+use Rattle.tape_form.proofs.Reading.{judged-is, read-judged, sixteen, Stands, stands, found, end, no-record, no-seed}
 
 -- ---- What the writer takes
 

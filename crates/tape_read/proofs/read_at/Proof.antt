@@ -4,9 +4,9 @@ use mathlib.Core.Path.{_≡_, _∙_}
 use Prim.Native.Nat.{_%_, _≤_}
 use native.Mathlib.Omega.{arith}
 use lib.ListN.{length}
-use Rattle.tape.proofs.Reading.{read-odd, read-past, read-end, read-short, read-judged}
-use Rattle.tape.proofs.read_at.Statement.{statement}
-use Rattle.tape.proofs.read_at.Tie as tie
+use Rattle.tape_form.proofs.Reading.{read-odd, read-past, read-end, read-short, read-judged}
+use Rattle.tape_read.proofs.read_at.Statement.{statement}
+use Rattle.tape_read.proofs.read_at.Tie as tie
 
 returns : tie.Need-returns
 returns c = let a = c .before .before .args in read-odd (a .tape .now) (a .at) (c .if1 .taken)

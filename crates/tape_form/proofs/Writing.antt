@@ -11,7 +11,7 @@ use borrow.Author.Tests.{ltb-true, ltb-false, eqb-true, eqb-false, eq-eqb, ne-eq
 use Rattle.record.specs.Form.{bytesOf}
 use Rattle.record.specs.Fault.{faultOf}
 use Rattle.record.specs.declared.Record.{Record}
-use Rattle.tape.specs.Write.{writeCode, writeOf}
+use Rattle.tape_form.specs.Write.{writeCode, writeOf}
 
 -- room tested by a difference, which cannot wrap
 pub room-same : (n at : ℕ) → at ≤ n → ltb (n - at) 16 ≡ ltb n (at + 16)

@@ -1,8 +1,8 @@
 -- `tape::write_code` meets its contract: the code is the definition, check by check. Assumes nothing.
 use borrow.Author.Needs.{needs}
-use Rattle.tape.specs.Write.{writeCode}
-use Rattle.tape.proofs.write_code.Statement.{statement}
-use Rattle.tape.proofs.write_code.Tie as tie
+use Rattle.tape_form.specs.Write.{writeCode}
+use Rattle.tape_checks.proofs.write_code.Statement.{statement}
+use Rattle.tape_checks.proofs.write_code.Tie as tie
 
 fault-requires : tie.Need-fault-requires
 fault-requires c κs = search needs

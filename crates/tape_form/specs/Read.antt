@@ -7,8 +7,8 @@ use lib.ListN.{length, take, drop}
 use lib.Dec.{ltb, eqb}
 use denote.Ref.{RefT, now}
 use Rattle.record.specs.Form.{recordOf, isHeader, isBadHeader, isCommand}
-use Rattle.tape.specs.declared.Read.{Read}
-use Rattle.tape.specs.declared.Read.the-variants.{Found, End, Refused}
+use Rattle.tape_form.specs.declared.Read.{Read}
+use Rattle.tape_form.specs.declared.Read.the-variants.{Found, End, Refused}
 
 -- 16 bytes at a place: at place 0 a header, else 15, and 17 for its value; elsewhere a command record, else 15
 unfoldable pub judged : ℕ → List ℕ → Read

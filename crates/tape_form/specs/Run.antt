@@ -4,10 +4,10 @@ use mathlib.Core.Path.{_≡_}
 use mathlib.Core.List.{List, [], _∷_, _++_}
 use Rattle.record.specs.declared.Record.{Record}
 use Rattle.record.specs.Form.{bytesOf}
-use Rattle.tape.specs.declared.Read.{Read}
-use Rattle.tape.specs.declared.Read.the-variants.{Found, End}
-use Rattle.tape.specs.Write.{writeCode, writeOf}
-use Rattle.tape.specs.Read.{readOf, nextAt}
+use Rattle.tape_form.specs.declared.Read.{Read}
+use Rattle.tape_form.specs.declared.Read.the-variants.{Found, End}
+use Rattle.tape_form.specs.Write.{writeCode, writeOf}
+use Rattle.tape_form.specs.Read.{readOf, nextAt}
 
 -- the tape of a run: its records' bytes, one behind another
 abbrev pub tapeOf : List Record → List ℕ

@@ -5,10 +5,10 @@ use mathlib.Core.Path.{_≡_, ap, _∙_}
 use native.Mathlib.Omega.{arith}
 use Prim.Native.Nat.{_+_}
 use Rattle.record.specs.declared.Record.{Record}
-use Rattle.tape.specs.declared.Read.the-variants.{Found}
-use Rattle.tape.proofs.Reading.{number-so, judged-not, judged-is}
-use Rattle.tape.proofs.judge.Statement.{statement}
-use Rattle.tape.proofs.judge.Tie as tie
+use Rattle.tape_form.specs.declared.Read.the-variants.{Found}
+use Rattle.tape_form.proofs.Reading.{number-so, judged-not, judged-is}
+use Rattle.tape_read.proofs.judge.Statement.{statement}
+use Rattle.tape_read.proofs.judge.Tie as tie
 
 record-of-requires : tie.Need-record-of-requires
 record-of-requires c κs = search needs

@@ -1,8 +1,8 @@
 -- `tape::at_end` meets its contract, by its two arms. Assumes nothing.
 use borrow.Author.Tests.{eq-eqb, ne-eqb}
-use Rattle.tape.specs.Read.{endOf}
-use Rattle.tape.proofs.at_end.Statement.{statement}
-use Rattle.tape.proofs.at_end.Tie as tie
+use Rattle.tape_form.specs.Read.{endOf}
+use Rattle.tape_read.proofs.at_end.Statement.{statement}
+use Rattle.tape_read.proofs.at_end.Tie as tie
 
 returns : tie.Need-returns
 unfolding endOf

@@ -16,14 +16,14 @@ use borrow.Author.Tests.{ne-eqb}
 use Rattle.record.specs.Form.{bytesOf}
 use Rattle.record.specs.declared.Record.{Record}
 use Rattle.record.proofs.RoundTrip.{sixteen-long}
-use Rattle.tape.specs.Write.{writeCode, writeOf}
-use Rattle.tape.specs.Read.{endOf, readOf, placeOf, nextAt}
-use Rattle.tape.specs.Run.{tapeOf, writeRun, Takes, answers, foundAll}
-use Rattle.tape.specs.declared.Read.{Read}
-use Rattle.tape.specs.declared.Read.the-variants.{Found, End}
-use Rattle.tape.proofs.Writing.{accepted}
-use Rattle.tape.proofs.Reading.{read-end, Stands, stands, found, end, no-record, no-seed}
-use Rattle.tape.proofs.RoundTrip.{found-there, spilled, before, later, length-kept, is-there}
+use Rattle.tape_form.specs.Write.{writeCode, writeOf}
+use Rattle.tape_form.specs.Read.{endOf, readOf, placeOf, nextAt}
+use Rattle.tape_form.specs.Run.{tapeOf, writeRun, Takes, answers, foundAll}
+use Rattle.tape_form.specs.declared.Read.{Read}
+use Rattle.tape_form.specs.declared.Read.the-variants.{Found, End}
+use Rattle.tape_form.proofs.Writing.{accepted}
+use Rattle.tape_form.proofs.Reading.{read-end, Stands, stands, found, end, no-record, no-seed}
+use Rattle.tape_form.proofs.RoundTrip.{found-there, spilled, before, later, length-kept, is-there}
 
 -- a run's tape has 16 bytes for each record
 pub tape-long : (rs : List Record) → length (tapeOf rs) ≡ 16 * length rs
