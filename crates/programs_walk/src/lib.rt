@@ -6,7 +6,7 @@ ghost use mathlib.Core.List.{_++_};
 ghost use lib.ListN.{length};
 ghost use Rattle.text.specs.Printed.{walk-header};
 ghost use Rattle.decimal.specs.Buffer.{In-front};
-ghost use Rattle.session_walk.specs.Walk.{at-first, text-for, walk-after, last-text, printed};
+ghost use Rattle.session_walk_text.specs.Walk.{at-first, text-for, walk-after, last-text, printed};
 ghost use Rattle.programs_flow.specs.Loops as loops;
 ghost use Rattle.programs_walk.specs.Sizes.{walk-piece, walk-lent};
 use programs_flow::Went;

@@ -10,9 +10,9 @@ use Rattle.text.specs.Lines.{kept, cuts, holds-after, lines-of-pieces}
 use Rattle.text.specs.Printed.{walk-header}
 use Rattle.text.proofs.Kept.{kept-says}
 use Rattle.text.proofs.Theorems.{lines-whole}
-use Rattle.session_walk.specs.declared.Walk.{Walk}
+use Rattle.session_walk_text.specs.declared.Walk.{Walk}
 use Rattle.session.specs.CarriedOut.{following, state-behind, answer-to, row-for, state-after}
-use Rattle.session_walk.specs.Walk.{walked, number-after, walk-text, at-first, text-for, walk-after, last-text, printed}
+use Rattle.session_walk_text.specs.Walk.{walked, number-after, walk-text, at-first, text-for, walk-after, last-text, printed}
 use Rattle.rules.specs.Line.{joined}
 
 -- A line refused with 14 has op, operands and released 0, the running task and clock as they stand, and changes nothing.

@@ -14,8 +14,8 @@ use Rattle.decimal.specs.Buffer.{contents-after, place-after, In-front}
 use Rattle.text.specs.Commands.{command-of}
 use Rattle.text.specs.Lines.{lines, last-piece, cuts, holds-after, held-bytes, nothing-held}
 use Rattle.text.specs.Printed.{walk-header, walk-line, header-room, walk-room}
-use Rattle.session_walk.specs.declared.Walk.{Walk}
-use Rattle.session_walk.specs.declared.Fed.{Fed}
+use Rattle.session_walk_text.specs.declared.Walk.{Walk}
+use Rattle.session_walk_text.specs.declared.Fed.{Fed}
 use Rattle.session.specs.CarriedOut.{following, state-behind, state-after, row-for}
 
 -- What is printed for lines, from a state and behind n lines: one line for each.

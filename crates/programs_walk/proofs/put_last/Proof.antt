@@ -2,7 +2,7 @@
 use borrow.Author.Needs.{needs}
 use native.Mathlib.Omega.{arith}
 use Rattle.text.specs.Printed.{walk-room}
-use Rattle.session_walk.specs.Walk.{last-text}
+use Rattle.session_walk_text.specs.Walk.{last-text}
 use Rattle.programs_flow.proofs.Rooms.{put-roomy}
 use Rattle.programs_walk.proofs.put_last.Statement.{statement}
 use Rattle.programs_walk.proofs.put_last.Tie as tie

@@ -3,7 +3,7 @@ use borrow.Author.Needs.{needs}
 use Prim.Native.Nat.{suc, _*_}
 use mathlib.Core.Path.{ap, _∙_}
 use lib.ListN.{length}
-use Rattle.session_walk.specs.declared.Fed.{Fed}
+use Rattle.session_walk_text.specs.declared.Fed.{Fed}
 use Rattle.programs_flow.proofs.Rooms.{with-room, put-front}
 use Rattle.programs_walk.proofs.Rooms.{walk-roomy}
 use Rattle.programs_walk.proofs.put_lines.Statement.{statement}
