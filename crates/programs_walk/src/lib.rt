@@ -8,7 +8,7 @@ ghost use Rattle.text.specs.Printed.{walk-header};
 ghost use Rattle.decimal.specs.Buffer.{In-front};
 ghost use Rattle.session_walk_text.specs.Walk.{at-first, text-for, walk-after, last-text, printed};
 ghost use Rattle.programs_flow.specs.Loops as loops;
-ghost use Rattle.programs_walk.specs.Sizes.{walk-piece, walk-lent};
+ghost use Rattle.session_walk_text.specs.Sizes.{walk-piece, walk-lent};
 use programs_flow::Went;
 use programs_flow::brought;
 use programs_flow::goes_on;

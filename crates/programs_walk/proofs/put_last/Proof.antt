@@ -1,4 +1,4 @@
--- `programs_walk::put_last` meets its contract: what is lent has room for a line (proofs/Rooms). Assumes nothing.
+-- `programs_walk::put_last` meets its contract: what is lent has room for a line (session_walk_text/proofs/Rooms). Assumes nothing.
 use borrow.Author.Needs.{needs}
 use native.Mathlib.Omega.{arith}
 use Rattle.text.specs.Printed.{walk-room}

@@ -1,4 +1,4 @@
--- What walk reads at a time, and what it lends.
+-- What the program walk reads at a time, and what it lends.
 use Prim.Native.Nat.{ℕ, suc, _*_}
 use Rattle.text.specs.Printed.{walk-room}
 
