@@ -12,7 +12,7 @@ use Rattle.kernel.specs.Step.{steppedOf}
 use Rattle.record.specs.declared.Record.{Record}
 use Rattle.record.specs.Form.{recordOf}
 use Rattle.record.proofs.Faults.{bytesFault}
-use Rattle.tape.proofs.Reading.{judged-not, judged-is}
+use Rattle.tape_form.proofs.Reading.{judged-not, judged-is}
 use Rattle.record_kept.specs.declared.Kept.{Kept}
 use Rattle.record_kept.specs.Kept.{kept-of}
 use Rattle.judge_verdict.specs.declared.Verdict.{Verdict}

@@ -7,9 +7,9 @@ use Rattle.kernel.specs.declared.Kernel.{Kernel}
 use Rattle.kernel.specs.Step.{steppedOf}
 use Rattle.record.specs.declared.Record.{Record}
 use Rattle.record.specs.Form.{recordOf}
-use Rattle.tape.specs.declared.Read.{Read}
-use Rattle.tape.specs.declared.Read.the-variants.{Found, End, Refused}
-use Rattle.tape.specs.Read.{judged as read}
+use Rattle.tape_form.specs.declared.Read.{Read}
+use Rattle.tape_form.specs.declared.Read.the-variants.{Found, End, Refused}
+use Rattle.tape_form.specs.Read.{judged as read}
 use Rattle.record_kept.specs.Kept.{kept-of}
 use Rattle.judge_verdict.specs.Verdict.{command-of}
 use Rattle.judge_record.specs.declared.Stage.{Stage}

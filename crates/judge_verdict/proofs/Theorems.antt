@@ -27,16 +27,16 @@ use Rattle.record.proofs.RoundTrip.{fields-back, bytes-spelt, sixteen-long, val
 use Rattle.record_kept.specs.declared.Kept.{Kept}
 use Rattle.record_kept.specs.Kept.{kept, kept-on, alike}
 use Rattle.record_kept.proofs.Laws.{alike-true, alike-own, unlike}
-use Rattle.tape.specs.declared.Read.{Read}
-use Rattle.tape.specs.declared.Read.the-variants.{Found, End, Refused}
-use Rattle.tape.specs.Read.{numberOf, readOf, judged, placeOf, nextAt}
-use Rattle.tape.specs.Run as T
-use Rattle.tape.specs.Run.{tapeOf}
-use Rattle.tape.proofs.Reading.{judged-not, read-judged, Stands, stands, found, end, no-record, no-seed}
-use Rattle.tape.proofs.RoundTrip.{part-small, found-there, IsThere, is-there}
-use Rattle.tape.proofs.Writing.{accepted}
-use Rattle.tape.proofs.Runs.{tape-long, end-there, end-place}
-use Rattle.tape.proofs.Answers.{place-moves}
+use Rattle.tape_form.specs.declared.Read.{Read}
+use Rattle.tape_form.specs.declared.Read.the-variants.{Found, End, Refused}
+use Rattle.tape_form.specs.Read.{numberOf, readOf, judged, placeOf, nextAt}
+use Rattle.tape_form.specs.Run as T
+use Rattle.tape_form.specs.Run.{tapeOf}
+use Rattle.tape_form.proofs.Reading.{judged-not, read-judged, Stands, stands, found, end, no-record, no-seed}
+use Rattle.tape_form.proofs.RoundTrip.{part-small, found-there, IsThere, is-there}
+use Rattle.tape_form.proofs.Writing.{accepted}
+use Rattle.tape_form.proofs.Runs.{tape-long, end-there, end-place}
+use Rattle.tape_form.proofs.Answers.{place-moves}
 use Rattle.judge_verdict.specs.declared.Verdict.{Verdict}
 use Rattle.judge_verdict.specs.declared.Verdict.the-variants.{Agrees, Differs, Refused as Malformed}
 use Rattle.judge_verdict.specs.declared.Judgement.{Judgement}

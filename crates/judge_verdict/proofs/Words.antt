@@ -11,9 +11,9 @@ use Rattle.rules.proofs.Words.{All}
 use Rattle.record.specs.declared.Record.{Record}
 use Rattle.record.specs.Form.{bytesOf, headerOf, isEdition, isSeed, commandFields}
 use Rattle.record_kept.specs.Kept.{kept, kept-on}
-use Rattle.tape.specs.declared.Read.the-variants.{Refused}
-use Rattle.tape.specs.Read.{readOf}
-use Rattle.tape.specs.Run.{tapeOf}
+use Rattle.tape_form.specs.declared.Read.the-variants.{Refused}
+use Rattle.tape_form.specs.Read.{readOf}
+use Rattle.tape_form.specs.Run.{tapeOf}
 use Rattle.judge_verdict.specs.declared.Difference.{Difference}
 use Rattle.judge_verdict.specs.declared.Refusal.{Refusal}
 use Rattle.judge_verdict.specs.declared.Verdict.{Verdict}

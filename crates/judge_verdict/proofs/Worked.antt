@@ -10,7 +10,7 @@ use Rattle.rules.specs.Run as rules
 use Rattle.kernel_checks.specs.Shown.{cmd}
 use Rattle.record.specs.Form.{recordOf}
 use Rattle.record_kept.specs.declared.Kept.{Kept}
-use Rattle.tape.specs.Read.{readOf, judged, endOf, nextAt}
+use Rattle.tape_form.specs.Read.{readOf, judged, endOf, nextAt}
 use Rattle.judge_verdict.specs.declared.Verdict.{Verdict}
 use Rattle.judge_verdict.specs.declared.Verdict.the-variants.{Agrees, Differs, Refused as Malformed}
 use Rattle.judge_verdict.specs.declared.Judgement.{Judgement}

@@ -12,10 +12,10 @@ use Rattle.record.specs.declared.Record.{Record}
 use Rattle.record.specs.Form.{recordOf}
 use Rattle.record_kept.specs.declared.Kept.{Kept}
 use Rattle.record_kept.specs.Kept.{kept, kept-on, alike}
-use Rattle.tape.specs.declared.Read.{Read}
-use Rattle.tape.specs.declared.Read.the-variants.{Found, End, Refused}
-use Rattle.tape.specs.Read.{numberOf, readOf}
-use Rattle.tape.specs.Run.{answers}
+use Rattle.tape_form.specs.declared.Read.{Read}
+use Rattle.tape_form.specs.declared.Read.the-variants.{Found, End, Refused}
+use Rattle.tape_form.specs.Read.{numberOf, readOf}
+use Rattle.tape_form.specs.Run.{answers}
 use Rattle.judge_verdict.specs.declared.Verdict.{Verdict}
 use Rattle.judge_verdict.specs.declared.Verdict.the-variants.{Agrees, Differs, Refused as Malformed}
 use Rattle.judge_verdict.specs.declared.Judgement.{Judgement}

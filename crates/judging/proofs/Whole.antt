@@ -21,11 +21,11 @@ use Rattle.kernel.specs.View.{encode, pad}
 use Rattle.kernel.proofs.Whole.{stepped-tie}
 use Rattle.record.specs.declared.Record.{Record}
 use Rattle.record.specs.Form.{recordOf}
-use Rattle.tape.specs.declared.Read.{Read}
-use Rattle.tape.specs.declared.Read.the-variants.{Found, End, Refused}
-use Rattle.tape.specs.Read.{numberOf, readOf, judged, endOf, placeOf, nextAt}
-use Rattle.tape.specs.Run.{answers}
-use Rattle.tape.proofs.Reading.{Stands, stands, found, end, no-record, no-seed, sixteen, read-end, read-short, read-judged}
+use Rattle.tape_form.specs.declared.Read.{Read}
+use Rattle.tape_form.specs.declared.Read.the-variants.{Found, End, Refused}
+use Rattle.tape_form.specs.Read.{numberOf, readOf, judged, endOf, placeOf, nextAt}
+use Rattle.tape_form.specs.Run.{answers}
+use Rattle.tape_form.proofs.Reading.{Stands, stands, found, end, no-record, no-seed, sixteen, read-end, read-short, read-judged}
 use Rattle.judge_verdict.specs.declared.Verdict.{Verdict}
 use Rattle.judge_verdict.specs.declared.Verdict.the-variants.{Agrees, Refused as Malformed}
 use Rattle.judge_verdict.specs.declared.Judgement.{Judgement}
@@ -37,8 +37,10 @@ use Rattle.judging.specs.declared.Judge.{Judge}
 use Rattle.record_kept.specs.Kept.{kept, kept-on, alike}
 use Rattle.judge_verdict.specs.Verdict.{command-of, difference, seed-shown, judged-from, verdict-of}
 use Rattle.judge_record.specs.Behind.{to-come, beyond, refused-at, refused, headed, compared}
-use Rattle.judging.specs.Pieces.{Pending, byte, bytes, pending-of, judge-of, at-first, fed, ended, judged-in}
-use Rattle.judging.proofs.Bytewise.{bytes-append, bytes-short, bytes-begun, few-begun, take-pad}
+use Rattle.judge_pieces.specs.Bytes.{Pending, byte, bytes, behind}
+use Rattle.judge_pieces.proofs.Bytewise.{bytes-short, bytes-begun, few-begun, behind-joined}
+use Rattle.judging.specs.Pieces.{pending-of, judge-of, at-first, fed, ended, judged-in}
+use Rattle.judging.proofs.Bytewise.{take-pad}
 use Rattle.judge_onward.proofs.Exits.{onward-over}
 use Rattle.judge_onward.specs.Onward.{run-of, head-of, answered, taken, onward}
 
@@ -296,13 +298,15 @@ same-pending h o =
     rw (min-eq-right o) (take-pad 16 (length (h .begun)) (h .begun) refl (omega arith)) in
     ap (λ (l : List ℕ). let z : Pending = record { run = h .run; begun = l } in z) e
 
-pieces-joined : (ps : List (List ℕ)) (h : Pending) → length (h .begun) ≤ 15 → judged-in (judge-of h) ps ≡ ended (judge-of (bytes h (joined ps)))
-unfolding judged-in fed bytes
-pieces-joined [] h o = refl
-pieces-joined (p ∷ ps) h o = rw (same-pending h o, bytes-append h p (joined ps)) (pieces-joined ps (bytes h p) (few-begun h p o))
+pieces-behind : (ps : List (List ℕ)) (h : Pending) → length (h .begun) ≤ 15 → judged-in (judge-of h) ps ≡ ended (judge-of (behind h ps))
+unfolding judged-in fed behind
+pieces-behind [] h o = refl
+pieces-behind (p ∷ ps) h o = rw (same-pending h o) (pieces-behind ps (bytes h p) (few-begun h p o))
 
 -- Whatever the pieces in which a tape comes, of any number and length, the judgement is that of the whole tape.
 -- (It rules out a judge that splits a record at a piece's end, drops or repeats a byte, or counts a record twice. 2^64 bytes are more than a place can be.)
 pub pieces-whole : (ps : List (List ℕ)) → length (joined ps) < 18446744073709551616 → judged-in at-first ps ≡ verdict-of (joined ps)
 unfolding at-first fed
-pieces-whole ps o = pieces-joined ps (pending-of at-first) (omega arith) ∙ whole-tape (joined ps) o
+pieces-whole ps o =
+    let h : Pending = pending-of at-first in
+    pieces-behind ps h (omega arith) ∙ ap (λ (x : Pending). ended (judge-of x)) (behind-joined ps h) ∙ whole-tape (joined ps) o

@@ -1,35 +1,14 @@
--- A judge that gets a tape in pieces, over any state that it is given: the whole records so far, and the first bytes
--- of the next one.
--- (From `at-first` on it is Verdict's judgement: proofs/Whole.)
+-- A judge that gets a tape in pieces, over any state that it is given. (What is behind bytes, and behind pieces:
+-- judge_pieces/specs/Bytes. From `at-first` on it is Verdict's judgement: proofs/Whole.)
 use Prim.Native.Nat.{ℕ, min}
-use mathlib.Core.Bool.{cond}
-use mathlib.Core.List.{List, [], _∷_, _++_}
-use lib.Dec.{eqb}
+use mathlib.Core.List.{List, [], _∷_}
 use lib.ListN.{length, take, replicate}
-use Rattle.rules.specs.Machine.{fresh}
-use Rattle.kernel.specs.View.{encode, pad}
+use Rattle.kernel.specs.View.{pad}
 use Rattle.judge_verdict.specs.declared.Judgement.{Judgement}
-use Rattle.judge_record.specs.declared.Stage.the-variants.{Going}
 use Rattle.judge_record.specs.Behind.{at-end}
 use Rattle.judge_onward.specs.declared.Run.{Run}
-use Rattle.judge_onward.specs.Onward.{onward}
+use Rattle.judge_pieces.specs.Bytes.{Pending, bytes, at-start}
 use Rattle.judging.specs.declared.Judge.{Judge}
-
--- A judge as a list has it: the run, and the bytes of a record that is not whole yet.
-pub record Pending : Type 0 where
-  pub run : Run
-  pub begun : List ℕ
-
--- A byte more: the sixteenth makes a record whole.
-unfoldable pub byte : Pending → ℕ → Pending
-byte h b =
-    cond (eqb (length (h .begun)) 15) (record { run = onward (h .run) (h .begun ++ (b ∷ [])); begun = [] })
-    (record { run = h .run; begun = h .begun ++ (b ∷ []) })
-
--- Bytes, one after another.
-unfoldable pub bytes : Pending → List ℕ → Pending
-bytes h [] = h
-bytes h (b ∷ l) = bytes (byte h b) l
 
 -- what a judge stands for
 abbrev pub pending-of : Judge → Pending
@@ -43,7 +22,7 @@ judge-of h = record { run = h .run; held = pad 16 (h .begun); count = length (h 
 unfoldable pub at-first : Judge
 at-first =
     record {
-      run = record { kernel = encode fresh; place = 0; seed = 0; stage = Going };
+      run = at-start;
       held = replicate 16 0;
       count = 0;
     }

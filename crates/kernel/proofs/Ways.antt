@@ -11,7 +11,7 @@ use Rattle.rules.specs.declared.Kind.{Kind}
 use Rattle.rules.specs.Machine.{Command, for-entry}
 use Rattle.kernel_line.specs.Tables.{place, pop, later, with-time}
 use Rattle.kernel_ready.specs.Ready.{runner-in, popped, to-tail, released-line}
-use Rattle.kernel_ops.specs.Moves.{waits-in, closed-line}
+use Rattle.kernel_close.specs.Moves.{waits-in, closed-line}
 use Rattle.kernel.specs.declared.Kernel.{Kernel}
 use Rattle.kernel.specs.declared.Stepped.{Stepped}
 use Rattle.kernel.specs.Lent.{tables, Ends}

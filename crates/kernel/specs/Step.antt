@@ -15,8 +15,8 @@ use Rattle.rules.specs.Table.{opens}
 use Rattle.rules.specs.Refusals.{refusal}
 use Rattle.kernel_line.specs.Tables.{place, pop, later, more, with-time}
 use Rattle.kernel_ready.specs.Ready.{runner-in, popped, tailed, to-tail}
-use Rattle.kernel_ops.specs.Moves.{waits-in, closed-line}
-use Rattle.kernel_time.specs.Due.{due-in}
+use Rattle.kernel_close.specs.Moves.{waits-in, closed-line}
+use Rattle.kernel_wake.specs.Due.{due-in}
 use Rattle.kernel.specs.declared.Kernel.{Kernel}
 use Rattle.kernel.specs.declared.Stepped.{Stepped}
 use Rattle.kernel.specs.declared.command.Answer.{Answer}

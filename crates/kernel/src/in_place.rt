@@ -1,5 +1,6 @@
 // The step and the test on lent tables: an accepted command is carried out where they lie, a refused one leaves them as
-// they are. (What each op does to them: crates kernel_ops and kernel_time. When it is refused: crate kernel_checks.)
+// they are. (What each op does to them: crates kernel_ops, kernel_close, kernel_time and kernel_wake. When it is
+// refused: crate kernel_checks.)
 ghost use Prim.Native.Nat.{ℕ, _<_, _^_};
 ghost use mathlib.Core.Path.{_≡_};
 ghost use lib.ListN.{length};
@@ -70,13 +71,13 @@ fn carry(
             *clock,
             c.value,
         ),
-        Kind::Waking => kernel_time::wake(base, ready, delayed, held, until, tops, *clock),
+        Kind::Waking => kernel_wake::wake(base, ready, delayed, held, until, tops, *clock),
         Kind::Advancing => kernel_time::advance(clock, c.value),
         Kind::Opening => kernel_ops::hold(ready, held, way, POId(c.a), rules::FOR_OPEN),
         Kind::Entering => kernel_ops::enter(ready, held, way, waiter, POId(c.a), c.b),
         Kind::Ending(e) => {
             let serves = e.serves & (c.b == 1);
-            kernel_ops::end(base, ready, held, way, tops, waiter, POId(c.a), serves)
+            kernel_close::end(base, ready, held, way, tops, waiter, POId(c.a), serves)
         }
     }
 }

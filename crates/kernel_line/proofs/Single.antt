@@ -17,11 +17,7 @@ use Rattle.kernel_line.proofs.of_object
 use Rattle.kernel_line.proofs.set_task
 use Rattle.kernel_line.proofs.set_time
 use Rattle.kernel_line.proofs.set_object
-use Rattle.kernel_line.proofs.front_time
 use Rattle.kernel_line.proofs.lead_task
-use Rattle.kernel_line.proofs.put_at
-use Rattle.kernel_line.proofs.put_time
-use Rattle.kernel_line.proofs.drop_front
 use Rattle.kernel_line.proofs.holders
 use Rattle.kernel_line.proofs.one_more
 
@@ -45,21 +41,8 @@ module _ {M : Type 1} (𝓤 : URA M) (H : Heap 𝓤) (A : Atoms 𝓤) (mem : Mem
   pub set-object-single : OneEnd 𝓤 set_object.ended (set_object.clauses 𝓤 H A mem run) (List ℕ) (λ κs r e. now (e .0))
   set-object-single κs a g r s d e = one 𝓤 _ _ _
 
-  pub front-time-single : OneAnswer 𝓤 front_time.ended (front_time.clauses 𝓤 H A mem run)
-  front-time-single κs a g r s d e = one 𝓤 _ _ _
-
   pub lead-task-single : OneAnswer 𝓤 lead_task.ended (lead_task.clauses 𝓤 H A mem run)
   lead-task-single κs a g r s d e = one 𝓤 _ _ _
-
-  -- the line that it was lent
-  pub put-at-single : OneEnd 𝓤 put_at.ended (put_at.clauses 𝓤 H A mem run) (List ℕ) (λ κs r e. now (e .0))
-  put-at-single κs a g r s d e = one 𝓤 _ _ _
-
-  pub put-time-single : OneEnd 𝓤 put_time.ended (put_time.clauses 𝓤 H A mem run) (List ℕ) (λ κs r e. now (e .0))
-  put-time-single κs a g r s d e = one 𝓤 _ _ _
-
-  pub drop-front-single : OneEnd 𝓤 drop_front.ended (drop_front.clauses 𝓤 H A mem run) (List ℕ) (λ κs r e. now (e .0))
-  drop-front-single κs a g r s d e = one 𝓤 _ _ _
 
   pub holders-single : OneAnswer 𝓤 holders.ended (holders.clauses 𝓤 H A mem run)
   holders-single κs a g r s d e = one 𝓤 _ _ _

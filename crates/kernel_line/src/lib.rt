@@ -1,5 +1,6 @@
-// Tables of 32 tasks and 8 objects, and lines of tasks in them: look up, store, place, take the front off, count.
-// (The ready line: crate kernel_ready. The tests of a whole line: crate kernel_order.)
+// Tables of 32 tasks and 8 objects, and lines of tasks in them: look up, store, count. (Placing in a line: crate
+// kernel_place. Its front taken off: crate kernel_front. The ready line: crate kernel_ready. The tests of a whole line:
+// crate kernel_order.)
 // Each function is total: a lookup past the end is 0, a store past the end does nothing. No table of 32 goes into a
 // call inside a loop over 32. A table or line that changes is lent and changed where it lies. A lent array that is
 // looked at as a slice has its length, so no caller has to promise it.
@@ -7,7 +8,7 @@ ghost use mathlib.Core.Path.{_≡_};
 ghost use lib.Dec.{eqb};
 ghost use lib.ListN.{set};
 ghost use Rattle.rules.specs.Line.{at, count};
-ghost use Rattle.kernel_line.specs.Tables.{lead, insert, place, pop, later, more, time-in, with-time};
+ghost use Rattle.kernel_line.specs.Tables.{lead, more, time-in, with-time};
 
 // A task's number, 0 for idle.
 pub struct TaskID(pub u8);
@@ -82,31 +83,6 @@ pub fn set_object(table: &mut [u8; 8], o: POId, v: u8)
     }
 }
 
-// ---- place, and take the front off
-
-// How many stand before the first with a time after v.
-pub fn front_time(line: &[u8; 32], until: &[u64; 32], v: u64) -> usize
-    ensures { λ r. ⌜ r ≡ lead (later (now (until .entry)) v) (now (line .entry)) ⌝ }
-{
-    let cells: &[u8] = line;
-    let mut i = 0;
-    while i < 32 {
-        let x = cells[i];
-        if x == 0 {
-            return i;
-        }
-        if 32 <= x {
-            return i;
-        }
-        let j = x as usize;
-        if v < until[j] {
-            return i;
-        }
-        i += 1;
-    }
-    i
-}
-
 // How many stand before t.
 pub fn lead_task(line: [u8; 32], t: TaskID) -> u8
     ensures { λ r. ⌜ r ≡ lead (eqb (t .0)) line ⌝ }
@@ -120,42 +96,6 @@ pub fn lead_task(line: [u8; 32], t: TaskID) -> u8
         n += 1;
     }
     n
-}
-
-// t at a place of the line; what stood there and behind it moves back, the last entry first.
-pub fn put_at(line: &mut [u8; 32], at: usize, t: TaskID)
-    ensures { λ _. ⌜ now (line .exit) ≡ insert at (t .0) (now (line .entry)) ⌝ }
-{
-    let cells: &mut [u8] = line;
-    if at < 32 {
-        let mut i = 31;
-        while at < i {
-            cells[i] = cells[i - 1];
-            i -= 1;
-        }
-        cells[at] = t.0;
-    }
-}
-
-// t by its time, behind those of an equal one.
-pub fn put_time(line: &mut [u8; 32], until: &[u64; 32], v: u64, t: TaskID)
-    ensures { λ _. ⌜ now (line .exit) ≡ place (later (now (until .entry)) v) (t .0) (now (line .entry)) ⌝ }
-{
-    let i = front_time(line, until, v);
-    put_at(line, i, t);
-}
-
-// The line without its front: each entry one place forward, and the last place free.
-pub fn drop_front(line: &mut [u8; 32])
-    ensures { λ _. ⌜ now (line .exit) ≡ pop (now (line .entry)) ⌝ }
-{
-    let cells: &mut [u8] = line;
-    let mut i = 0;
-    while i < 31 {
-        cells[i] = cells[i + 1];
-        i += 1;
-    }
-    cells[31] = 0;
 }
 
 // ---- count

@@ -27,7 +27,7 @@ pub fn running(started: bool, ready: &[u8; 32]) -> TaskID
 pub fn take_front(ready: &mut [u8; 32])
     ensures { λ _. ⌜ now (ready .exit) ≡ popped (now (ready .entry)) ⌝ }
 {
-    kernel_line::drop_front(ready);
+    kernel_front::drop_front(ready);
 }
 
 // How many stand before the first with an active priority below p.
@@ -65,7 +65,7 @@ pub fn put_tail(
         tailed (now (base .entry)) ceiling (now (held .entry)) p (t .0) (now (ready .entry)) ⌝ }
 {
     let i = front_level(ready, base, ceiling, held, p);
-    kernel_line::put_at(ready, i, t);
+    kernel_place::put_at(ready, i, t);
 }
 
 // t at the head of p: the tail of the priority above.

@@ -1,5 +1,5 @@
 // The test of a saved state: document 01's conditions, and that every unused cell is 0. (The cells, table by table:
-// crate kernel_cells. The lines: crates kernel_order and kernel_marks.)
+// crates kernel_cells, kernel_objects and kernel_holders. The lines: crates kernel_order and kernel_marks.)
 ghost use mathlib.Core.Path.{_≡_};
 ghost use Rattle.kernel_sound.specs.Test as test;
 use kernel_cells::DELAYED;
@@ -40,8 +40,8 @@ pub fn tested<'a>(
     let place = kernel_marks::mark_waiting(waiter, WAITING, place);
     let tasks = kernel_cells::tasks_fit(base, &place, held, way);
     let times = kernel_cells::times_fit(until, &place);
-    let holders = kernel_cells::holders_fit(base, held, ceiling);
-    let objects = kernel_cells::objects_fit(base, ceiling, waiter);
+    let holders = kernel_holders::holders_fit(base, held, ceiling);
+    let objects = kernel_objects::objects_fit(base, ceiling, waiter);
     let calm = is_calm(started, clock, delayed[0], waiter, held);
     ended & falling & rising & tasks & times & holders & objects & calm
 }

@@ -1,14 +1,12 @@
-// What the ops of time do to the tables, in place: a delay, a Wake, the clock. A function is lent the tables that it
-// reads or changes, and no other. It answers the task that it releases, 0 for nobody. (Set-up and objects: crate
-// kernel_ops. When a command is refused: crate kernel_checks.)
+// What the ops of time do to the tables, in place: a delay, the clock. A function is lent the tables that it reads or
+// changes, and no other. It answers the task that it releases, which is nobody: 0. (A Wake: crate kernel_wake. Set-up
+// and objects: crates kernel_ops and kernel_close. When a command is refused: crate kernel_checks.)
 ghost use mathlib.Core.Path.{_≡_};
 ghost use mathlib.Core.Bool.{cond};
 ghost use Prim.Native.Nat.{_+_, _^_};
-ghost use lib.Dec.{eqb, ltb};
-ghost use Rattle.kernel_line.specs.Tables.{place, pop, later, with-time};
-ghost use Rattle.kernel_ready.specs.Ready.{runner-in, popped, to-tail, released-line};
-ghost use Rattle.kernel_time.specs.Due.{due-in};
-use kernel_line::TaskID;
+ghost use lib.Dec.{ltb};
+ghost use Rattle.kernel_line.specs.Tables.{place, later, with-time};
+ghost use Rattle.kernel_ready.specs.Ready.{runner-in, popped, to-tail};
 
 // 4, with a time above the clock: into the delay line
 fn sleep(ready: &mut [u8; 32], delayed: &mut [u8; 32], until: &mut [u64; 32], v: u64) -> u8
@@ -19,7 +17,7 @@ fn sleep(ready: &mut [u8; 32], delayed: &mut [u8; 32], until: &mut [u64; 32], v:
 {
     let r = kernel_ready::runner(ready);
     kernel_ready::take_front(ready);
-    kernel_line::put_time(delayed, until, v, r);
+    kernel_place::put_time(delayed, until, v, r);
     kernel_line::set_time(until, r, v);
     0
 }
@@ -58,58 +56,6 @@ pub fn delay(
     } else {
         give_way(base, ready, held, ceiling)
     }
-}
-
-// The task to wake: the first delay entry, if its time is at most the clock; 0 for nobody.
-fn due(delayed: &[u8; 32], until: &[u64; 32], clock: u64) -> u8
-    ensures { λ r. ⌜ r ≡ due-in (now (delayed .entry)) (now (until .entry)) clock ⌝ }
-{
-    let t = delayed[0];
-    numbers::choose(kernel_line::time_of(until, TaskID(t)) <= clock, t, 0)
-}
-
-// 5, where the first delay entry is due: it goes to the tail of its base
-fn rouse(
-    base: &[u8; 32],
-    ready: &mut [u8; 32],
-    delayed: &mut [u8; 32],
-    held: &[u8; 32],
-    until: &mut [u64; 32],
-    ceiling: [u8; 8],
-    t: TaskID,
-) -> u8
-    ensures { λ r. let l = now (ready .entry) in
-        ⌜ (r ≡ t .0) × (now (ready .exit) ≡ to-tail (now (base .entry)) ceiling (now (held .entry)) (t .0) l)
-        × (now (delayed .exit) ≡ pop (now (delayed .entry)))
-        × (now (until .exit) ≡ with-time (now (until .entry)) (t .0) 0) ⌝ }
-{
-    kernel_ready::to_tail(ready, base, ceiling, held, t);
-    kernel_line::drop_front(delayed);
-    kernel_line::set_time(until, t, 0);
-    t.0
-}
-
-// 5: whoever is due, or nobody
-pub fn wake(
-    base: &[u8; 32],
-    ready: &mut [u8; 32],
-    delayed: &mut [u8; 32],
-    held: &[u8; 32],
-    until: &mut [u64; 32],
-    ceiling: [u8; 8],
-    clock: u64,
-) -> u8
-    ensures { λ r. let d = now (delayed .entry) in let u = now (until .entry) in let t = due-in d u clock in
-        ⌜ (r ≡ t)
-        × (now (ready .exit) ≡ released-line (now (base .entry)) ceiling (now (held .entry)) t (now (ready .entry)))
-        × (now (delayed .exit) ≡ cond (eqb t 0) d (pop d))
-        × (now (until .exit) ≡ cond (eqb t 0) u (with-time u t 0)) ⌝ }
-{
-    let t = due(delayed, until, clock);
-    if t == 0 {
-        return 0;
-    }
-    rouse(base, ready, delayed, held, until, ceiling, TaskID(t))
 }
 
 // 6: the clock, some ticks later: as it was, where it would pass its end

@@ -2,7 +2,7 @@
 -- two answers that both meet the contract are one answer; and of what was lent to be changed, two final contents that meet it are one.
 -- Rules out: a contract that leaves an answer open, or says nothing. Leaves: which answer it is; that is what the definitions of specs/ say.
 -- What is lent to be read only (`&`) the language does not let change, so there is nothing to show of it.
--- The laws: two values that are equal to a third are equal (`one`), and so are pairs and triples, part by part (`both` with `each-of-two`, `each-of-three`).
+-- The laws: two values that are equal to a third are equal (`one`), and so are pairs, triples and more, part by part (`both` with `each-of-two` .. `each-of-five`).
 -- A contract that is no equation with what is seen does not fit them. Each crate whose functions answer something has a file proofs/Single that cites them,
 -- a statement for each public function (tools/contracts.py looks that none is missing). Assumes nothing.
 use mathlib.Core.Path.{_≡_, sym, _∙_}
@@ -27,6 +27,23 @@ each-of-two p q = same-pair (p .0 ∙ sym (q .0)) (p .1 ∙ sym (q .1))
 pub each-of-three : {X Y Z : Type 0} {x r s : X} {y m n : Y} {z u v : Z} → (r ≡ x) × (m ≡ y) × (u ≡ z) → (s ≡ x) × (n ≡ y) × (v ≡ z)
     → _≡_ {A = X × Y × Z} (r, m, u) (s, n, v)
 each-of-three p q = same-three (p .0 ∙ sym (q .0)) (p .1 ∙ sym (q .1)) (p .2 ∙ sym (q .2))
+
+-- Four and five parts.
+
+same-four : {X Y Z W : Type 0} {r s : X} {m n : Y} {u v : Z} {g h : W} → r ≡ s → m ≡ n → u ≡ v → g ≡ h → _≡_ {A = X × Y × Z × W} (r, m, u, g) (s, n, v, h)
+same-four a b c d = cc
+
+pub each-of-four : {X Y Z W : Type 0} {x r s : X} {y m n : Y} {z u v : Z} {w g h : W} → (r ≡ x) × (m ≡ y) × (u ≡ z) × (g ≡ w)
+    → (s ≡ x) × (n ≡ y) × (v ≡ z) × (h ≡ w) → _≡_ {A = X × Y × Z × W} (r, m, u, g) (s, n, v, h)
+each-of-four p q = same-four (p .0 ∙ sym (q .0)) (p .1 ∙ sym (q .1)) (p .2 ∙ sym (q .2)) (p .3 ∙ sym (q .3))
+
+same-five : {X Y Z W Q : Type 0} {r s : X} {m n : Y} {u v : Z} {g h : W} {k l : Q} → r ≡ s → m ≡ n → u ≡ v → g ≡ h → k ≡ l
+    → _≡_ {A = X × Y × Z × W × Q} (r, m, u, g, k) (s, n, v, h, l)
+same-five a b c d e = cc
+
+pub each-of-five : {X Y Z W Q : Type 0} {x r s : X} {y m n : Y} {z u v : Z} {w g h : W} {t k l : Q} → (r ≡ x) × (m ≡ y) × (u ≡ z) × (g ≡ w) × (k ≡ t)
+    → (s ≡ x) × (n ≡ y) × (v ≡ z) × (h ≡ w) × (l ≡ t) → _≡_ {A = X × Y × Z × W × Q} (r, m, u, g, k) (s, n, v, h, l)
+each-of-five p q = same-five (p .0 ∙ sym (q .0)) (p .1 ∙ sym (q .1)) (p .2 ∙ sym (q .2)) (p .3 ∙ sym (q .3)) (p .4 ∙ sym (q .4))
 
 module _ {M : Type 1} (𝓤 : URA M) where
   -- Of any two ends of a call that meet the contract c, with the answers r and s and the parameters d and e: `seen` of both is the same.

@@ -14,9 +14,9 @@ use Rattle.record.specs.Form.{isHeader, isCommand, marked, recordOf, bytesOf, h
 use Rattle.record.specs.Fault.{faultOf}
 use Rattle.record.proofs.RoundTrip.{bytes-spelt, sixteen-long, value-kept}
 use Rattle.record.proofs.Faults.{own-fault, unfaulted}
-use Rattle.tape.specs.Run.{tapeOf, Takes, answers, foundAll}
-use Rattle.tape.proofs.Writing.{accepted, accepts}
-use Rattle.tape.proofs.Runs.{run-there, run-answers}
+use Rattle.tape_form.specs.Run.{tapeOf, Takes, answers, foundAll}
+use Rattle.tape_form.proofs.Writing.{accepted, accepts}
+use Rattle.tape_form.proofs.Runs.{run-there, run-answers}
 use Rattle.salvage_marks.specs.Torn.{is-record, makes, marks, pick, kept-on, kept, found-on, found, headed}
 use Rattle.salvage_marks.specs.Words.{Bytes, Whole}
 use Rattle.salvage_marks.proofs.Marks.{both-true, and-false, makes-long, makes-record, kept-keep, kept-drop}

@@ -7,19 +7,21 @@ use mathlib.Core.Logic.{_↔_}
 use mathlib.Core.Bool.{Bool, true, false, not}
 use mathlib.Core.List.{List, [], _∷_, _++_}
 use lib.Dec.{eqb}
+use borrow.Author.Tests.{leb-true}
 use lib.ListN.{length, drop}
 use Rattle.rules.specs.Line.{joined}
 use Rattle.record.specs.Form.{bytesOf}
 use Rattle.record.specs.Fault.{faultOf}
 use Rattle.record.specs.declared.Record.{Record}
-use Rattle.tape.specs.Run.{tapeOf, Takes, answers, foundAll}
+use Rattle.tape_form.specs.Run.{tapeOf, Takes, answers, foundAll}
 use Rattle.salvage_marks.specs.declared.Salvaged.{Salvaged}
 use Rattle.salvage_marks.specs.declared.Torn.{Torn}
 use Rattle.salvage_marks.specs.declared.Fed.{Fed}
 use Rattle.salvage_marks.specs.Torn.{kept, dropped, found, headed, cells, total, salvagedOf, SalvagedTo}
-use Rattle.salvage_marks.specs.Pieces.{at-first, lastPlace, written, listed, fedFits, fedOf, FedTo, Chain}
+use Rattle.salvage_marks.specs.Pieces.{at-first, lastPlace, written, listed, fedFits, long-enough, fedOf, FedTo, Chain}
 use Rattle.salvage_marks.specs.Words.{Bytes, Whole, Apart, cut, in-stretch, stands, kept-at, Has, byte-kept, Front, Answered, PieceAnswered}
 use Rattle.salvage_marks.specs.Damage.{Gap, torn-at, saved, gaps, Loses-none}
+use Rattle.salvage_marks.proofs.Marks.{both-true}
 use Rattle.salvage_marks.proofs.Whole as whole
 use Rattle.salvage_marks.proofs.Apart as places
 use Rattle.salvage_marks.proofs.Listed as lists
@@ -191,3 +193,8 @@ piece-held-few t buf out list out′ list′ r f z = told.piece-held t buf out l
 -- No piece is refused whose end can be said in 64 bits, over a buffer of as many bytes and one of a number for each whole 8 of them.
 pub piece-fits : (t : Torn) (buf : List ℕ) (n m : ℕ) → t .place + length buf ≤ lastPlace → length buf ≤ n → length buf < 8 * m + 8 → fedFits t buf n m ≡ true
 piece-fits t buf n m p a b = chained.enough t buf n m p a b
+
+-- Buffers that are long enough by the rule of thumb are: no such piece is refused for want of room.
+-- Rules out: a rule of thumb that is too generous.
+pub never-short : (t : Torn) (buf : List ℕ) (n m : ℕ) → t .place + length buf ≤ lastPlace → long-enough (length buf) n m ≡ true → fedFits t buf n m ≡ true
+never-short t buf n m p e = let h = both-true e in piece-fits t buf n m p (leb-true _ n (h .0)) (omega (arith, leb-true _ m (h .1)))

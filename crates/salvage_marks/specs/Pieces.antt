@@ -1,6 +1,6 @@
 -- The salvage of a tape that comes in pieces: what is decided of the bytes seen so far, and what waits for the next
 -- piece. Assumes nothing.
-use Prim.Native.Nat.{ℕ, zero, suc, _+_, _-_}
+use Prim.Native.Nat.{ℕ, zero, suc, _+_, _-_, _/_}
 use mathlib.Core.Path.{_≡_}
 use mathlib.Core.List.{List, [], _∷_, _++_}
 use mathlib.Core.Bool.{Bool, true, false, cond, _&&_, _||_}
@@ -78,6 +78,11 @@ held t buf = drop (length (decided t buf)) buf
 unfoldable pub fedFits : Torn → List ℕ → ℕ → ℕ → Bool
 fedFits t buf n m =
     leb (t .place + length buf) lastPlace && leb (length (written t buf)) n && leb (length (cells (listed t buf))) m
+
+-- Buffers of n bytes and m numbers are long enough for any so many bytes: a byte for each, and a number for each whole
+-- 8 of them. (Then nothing has to be measured.)
+abbrev pub long-enough : ℕ → ℕ → ℕ → Bool
+long-enough many n m = leb many n && leb (many / 8) m
 
 -- A piece answers 0, the salvage behind it and its counts; or, where it does not fit, 16, the salvage as it was, and
 -- zeros.

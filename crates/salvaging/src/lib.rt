@@ -231,6 +231,13 @@ fn put(
 
 // ---- In pieces
 
+// Long enough for any so many bytes, whatever they are.
+fn long_enough(many: usize, n: usize, m: usize) -> bool
+    ensures { λ r. ⌜ r ≡ pieces.long-enough many n m ⌝ }
+{
+    (many <= n) & (many / 8 <= m)
+}
+
 // What is to be written and listed fits for sure, or is measured and fits.
 fn holds(buf: &[u8], place: usize, begin: usize, size: usize, n: usize, m: usize) -> bool
     requires { ⌜ (size ≡ walk.headSize place (now buf)) × (begin ≤ place) × (place + length (now buf) < 2 ^ 64) ⌝ }
@@ -238,7 +245,7 @@ fn holds(buf: &[u8], place: usize, begin: usize, size: usize, n: usize, m: usize
         ≡ (leb (walk.passedOf place begin (now (buf .entry)) .kept) n
         && leb (walk.passedOf place begin (now (buf .entry)) .cells) m) ⌝ }
 {
-    if (buf.len() <= n) & (buf.len() / 8 <= m) {
+    if long_enough(buf.len(), n, m) {
         return true;
     }
     let p = measure(buf, place, begin, size);

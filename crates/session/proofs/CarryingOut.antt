@@ -9,8 +9,7 @@ use lib.ListN.{length, take}
 use Rattle.rules.specs.Line.{empty}
 use Rattle.kernel.specs.declared.Kernel.{Kernel}
 use Rattle.kernel.specs.declared.command.Answer.{Answer}
-use Rattle.kernel.specs.Public.{stepOf, runningOf}
-use Rattle.generator.specs.Public.{unmoved}
+use Rattle.kernel.specs.Public.{answerOf, stepOf, runningOf}
 use Rattle.text.specs.declared.Spoken.{Spoken}
 use Rattle.text.specs.declared.Row.{Row}
 use Rattle.session.specs.CarriedOut.{following, asked, state-behind, answer-to, row-of, CarriesOut}
@@ -22,7 +21,7 @@ pub no-more : (n : ℕ) → 18446744073709551615 ≤ n → n ≡ following n
 no-more n h = rw (le-ltb n 18446744073709551615 h)
 
 module _ (k : Kernel) (n : ℕ) (s : Spoken) where
-  pub says-none : (run : ℕ) (r : Row) → (s .code ≡ 0 → ⊥) → run ≡ runningOf k → r ≡ row-of n s (unmoved (s .code) run) (k .clock) → CarriesOut k n s r k
+  pub says-none : (run : ℕ) (r : Row) → (s .code ≡ 0 → ⊥) → run ≡ runningOf k → r ≡ row-of n s (answerOf (s .code) run 0) (k .clock) → CarriesOut k n s r k
   unfolding state-behind answer-to
   says-none run r z e er = (rw (ne-eqb (s .code) 0 z), rw (er, ne-eqb (s .code) 0 z, e))
 

@@ -7,8 +7,7 @@ use lib.Dec.{eqb, ltb}
 use Rattle.rules.specs.Machine.{Command}
 use Rattle.kernel.specs.declared.Kernel.{Kernel}
 use Rattle.kernel.specs.declared.command.Answer.{Answer}
-use Rattle.kernel.specs.Public.{stepOf, runningOf}
-use Rattle.generator.specs.Public.{unmoved}
+use Rattle.kernel.specs.Public.{answerOf, stepOf, runningOf}
 use Rattle.text.specs.declared.Spoken.{Spoken}
 use Rattle.text.specs.declared.Row.{Row}
 use Rattle.text.specs.Commands.{command-of}
@@ -28,7 +27,7 @@ state-behind k s = cond (eqb (s .code) 0) (stepOf k (asked s) .next) k
 
 -- it is answered with its code, the running task as it stands, and nobody released.
 unfoldable pub answer-to : Kernel → Spoken → Answer
-answer-to k s = cond (eqb (s .code) 0) (stepOf k (asked s) .answer) (unmoved (s .code) (runningOf k))
+answer-to k s = cond (eqb (s .code) 0) (stepOf k (asked s) .answer) (answerOf (s .code) (runningOf k) 0)
 
 -- the state behind lines, one after another
 unfoldable pub state-after : Kernel → List (List ℕ) → Kernel

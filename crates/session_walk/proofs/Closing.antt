@@ -12,9 +12,9 @@ use Rattle.decimal.specs.Buffer.{contents-after, place-after, In-front}
 use Rattle.text.specs.Commands.{command-of}
 use Rattle.text.specs.Lines.{held-bytes}
 use Rattle.text.specs.Printed.{walk-line}
-use Rattle.session_walk.specs.declared.Walk.{Walk}
+use Rattle.session_walk_text.specs.declared.Walk.{Walk}
 use Rattle.session.specs.CarriedOut.{following, row-for}
-use Rattle.session_walk.specs.Walk.{walked, last-text, finished, finished-out}
+use Rattle.session_walk_text.specs.Walk.{walked, last-text, finished, finished-out}
 use Rattle.text.proofs.Bounds.{walk-short}
 use Rattle.decimal.proofs.Stores.{in-front, put-in-front}
 use Rattle.session.proofs.CarryingOut.{no-byte, some-byte}

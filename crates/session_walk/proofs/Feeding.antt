@@ -15,9 +15,9 @@ use Rattle.decimal.specs.Buffer.{contents-after, place-after, In-front}
 use Rattle.text.specs.Commands.{command-of}
 use Rattle.text.specs.Lines.{cut-of, cuts, holds-after, held-bytes, nothing-held}
 use Rattle.text.specs.Printed.{walk-line}
-use Rattle.session_walk.specs.declared.Walk.{Walk}
+use Rattle.session_walk_text.specs.declared.Walk.{Walk}
 use Rattle.session.specs.CarriedOut.{following, state-behind, row-for, CarriesOut, state-after}
-use Rattle.session_walk.specs.Walk.{walked, number-after, text-for, walk-after, fed, fed-out}
+use Rattle.session_walk_text.specs.Walk.{walked, number-after, text-for, walk-after, fed, fed-out}
 use Rattle.text.proofs.Bounds.{walk-short}
 use Rattle.decimal.proofs.Stores.{in-front}
 use Rattle.session.proofs.Cuts.{cuts-whole, holds-whole}

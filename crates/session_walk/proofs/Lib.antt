@@ -1,4 +1,3 @@
 pub mod Closing
 pub mod Feeding
-pub mod Theorems
 pub mod Single

@@ -13,7 +13,7 @@ use contract.Monad.{Fun}
 use denote.Ref.{now}
 use Rattle.one_answer.proofs.Law.{OneAnswer, OneEnd, one, both}
 use Rattle.session.proofs.Ends.{same-end}
-use Rattle.session_walk.specs.declared.Fed.{Fed}
+use Rattle.session_walk_text.specs.declared.Fed.{Fed}
 use Rattle.session_walk.proofs.begin
 use Rattle.session_walk.proofs.header
 use Rattle.session_walk.proofs.feed

@@ -1,30 +1,19 @@
-// The program walk, piece by piece of its input.
+// The program walk, piece by piece of its input. (What it prints: crate session_walk_text.)
 ghost use mathlib.Core.Path.{_≡_};
 ghost use Rattle.kernel.specs.Step.{tables};
 ghost use Rattle.decimal.specs.Buffer.{In-front};
-ghost use Rattle.session_walk.specs.Walk as walk;
+ghost use Rattle.session_walk_text.specs.Walk as walk;
 use kernel::Kernel;
 use session::carry_out;
 use session::following;
+pub use session_walk_text::Fed;
+pub use session_walk_text::Walk;
 use text::Held;
 use text_print::put_walk_header;
 use text_print::put_walk_line;
 use text_split::held_command;
 use text_split::held_none;
 use text_split::next_command;
-
-// Where a walk stands: the state, what is held of a line that has begun, and how many lines there were.
-pub struct Walk {
-    pub kernel: Kernel,
-    pub held: Held,
-    pub n: u64,
-}
-
-// The walk behind a piece, and how many bytes were printed.
-pub struct Fed {
-    pub walk: Walk,
-    pub at: usize,
-}
 
 pub fn begin() -> Walk
     ensures { λ r. ⌜ r ≡ walk.at-first ⌝ }

@@ -1,7 +1,2 @@
 pub mod Copy
-pub mod Writing
-pub mod Reading
-pub mod RoundTrip
-pub mod Runs
-pub mod Answers
 pub mod Single

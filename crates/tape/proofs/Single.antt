@@ -14,9 +14,7 @@ use contract.Monad.{Fun}
 use denote.Ref.{RefT, now}
 use Rattle.one_answer.proofs.Law.{OneAnswer, OneEnd, one, both, each-of-two, each-of-three}
 use Rattle.tape.proofs.write_at
-use Rattle.tape.proofs.read_at
 use Rattle.tape.proofs.number
-use Rattle.tape.proofs.place
 use Rattle.tape.proofs.code_at
 use Rattle.tape.proofs.next_at
 use Rattle.tape.proofs.part_at
@@ -37,14 +35,8 @@ module _ {M : Type 1} (𝓤 : URA M) (H : Heap 𝓤) (A : Atoms 𝓤) (mem : Mem
 
   -- ---- the reader
 
-  pub read-at-single : OneAnswer 𝓤 read_at.ended (read_at.clauses 𝓤 H A mem run)
-  read-at-single κs a g r s d e = one 𝓤 _ _ _
-
   pub number-single : OneAnswer 𝓤 number.ended (number.clauses 𝓤 H A mem run)
   number-single κs a g r s d e = one 𝓤 _ _ _
-
-  pub place-single : OneAnswer 𝓤 place.ended (place.clauses 𝓤 H A mem run)
-  place-single κs a g r s d e = one 𝓤 _ _ _
 
   pub code-at-single : OneAnswer 𝓤 code_at.ended (code_at.clauses 𝓤 H A mem run)
   code-at-single κs a g r s d e = one 𝓤 _ _ _

@@ -3,10 +3,10 @@ use Prim.Native.Nat.{ℕ, zero, suc, _+_, _*_}
 use mathlib.Core.List.{List}
 use lib.Bits.{bitXor}
 use Rattle.record.specs.declared.Record.{Record}
-use Rattle.tape.specs.declared.Read.{Read}
-use Rattle.tape.specs.declared.Read.the-variants.{Found, End, Refused}
-use Rattle.tape.specs.Read.{readOf, placeOf}
-use Rattle.tape.specs.Write.{writeOf}
+use Rattle.tape_form.specs.declared.Read.{Read}
+use Rattle.tape_form.specs.declared.Read.the-variants.{Found, End, Refused}
+use Rattle.tape_form.specs.Read.{readOf, placeOf}
+use Rattle.tape_form.specs.Write.{writeOf}
 use Rattle.tape_bench.specs.declared.Pass.{Pass}
 
 -- the value of the record that an answer found, else 0

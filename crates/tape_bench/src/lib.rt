@@ -4,7 +4,7 @@ use tape::Read;
 use tape::Record;
 ghost use mathlib.Core.Path.{_≡_};
 ghost use Rattle.record.specs.Form.{headerOf};
-ghost use Rattle.tape.specs.Write.{writeOf};
+ghost use Rattle.tape_form.specs.Write.{writeOf};
 ghost use Rattle.tape_bench.specs.Pass.{valueOf, turnOf, passed, ticks, filled};
 
 struct Pass {

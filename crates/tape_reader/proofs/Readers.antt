@@ -8,13 +8,13 @@ use mathlib.Core.List.{List, [], _∷_, map}
 use lib.ListN.{length, take, drop, length-drop}
 use lib.Seq.{length-take-le}
 use denote.Ref.{RefT, now}
-use Rattle.tape.specs.Read.{sizeOf, placeOf, numberOf, codeAt, partAt, nextAt, PartAt}
+use Rattle.tape_form.specs.Read.{sizeOf, placeOf, numberOf, codeAt, partAt, nextAt, PartAt}
 use Rattle.tape_reader.specs.Reader.{Opened, Next}
-use Rattle.tape.specs.Run.{answers}
+use Rattle.tape_form.specs.Run.{answers}
 use Rattle.tape_reader.specs.declared.Part.{Part}
 use Rattle.tape_reader.specs.declared.Reader.{Reader}
-use Rattle.tape.specs.declared.Read.{Read}
-use Rattle.tape.proofs.Reading.{Stands, stands, found, end, no-record, no-seed}
+use Rattle.tape_form.specs.declared.Read.{Read}
+use Rattle.tape_form.proofs.Reading.{Stands, stands, found, end, no-record, no-seed}
 
 -- A reader that is asked again and again: the parts that it hands back, and the reader behind them.
 pub data Reads : Reader → List Part → Reader → Type 0 where

@@ -3,7 +3,7 @@ use mathlib.Core.Path.{_≡_}
 use mathlib.Core.List.{List}
 use Prim.Native.Nat.{ℕ}
 use denote.Ref.{RefT, now}
-use Rattle.tape.specs.Read.{codeAt, nextAt, PartAt}
+use Rattle.tape_form.specs.Read.{codeAt, nextAt, PartAt}
 use Rattle.tape_reader.specs.declared.Part.{Part}
 use Rattle.tape_reader.specs.declared.Reader.{Reader}
 

@@ -3,7 +3,7 @@ use native.Mathlib.Omega.{arith}
 use mathlib.Core.Path.{_≡_, ap, _∙_}
 use Rattle.kernel.specs.Step.{tables}
 use Rattle.record.proofs.Faults.{bytesFault}
-use Rattle.tape.proofs.Reading.{number-so}
+use Rattle.tape_form.proofs.Reading.{number-so}
 use Rattle.judge_record.specs.declared.Stage.the-variants.{Going}
 use Rattle.judge_onward.specs.declared.Run.{Run}
 use Rattle.judge_onward.specs.Onward.{run-of, answered}

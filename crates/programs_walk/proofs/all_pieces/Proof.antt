@@ -5,7 +5,7 @@ use mathlib.Core.Path.{_≡_, refl}
 use mathlib.Core.Logic.{inl, inr}
 use lib.ListN.{length}
 use mathlib.Core.Bool.{true}
-use Rattle.session_walk.specs.Walk.{at-first, walk-after, text-for}
+use Rattle.session_walk_text.specs.Walk.{at-first, walk-after, text-for}
 use Rattle.programs_flow.specs.Loops.{all-turns}
 use Rattle.programs_flow.proofs.Turns.{Running, at-start, gone-on, one-turn, stopped, at-end}
 use Rattle.programs_walk.proofs.all_pieces.Statement.{statement}

@@ -1,6 +1,6 @@
 -- `programs_walk::conclude` meets its contract: behind a failure nothing more is written, else the last text is (proofs/Turns). Assumes nothing.
 use borrow.Author.Needs.{needs}
-use Rattle.session_walk.specs.Walk.{last-text}
+use Rattle.session_walk_text.specs.Walk.{last-text}
 use Rattle.programs_flow.proofs.Turns.{nothing-more, last-written}
 use Rattle.programs_walk.proofs.conclude.Statement.{statement}
 use Rattle.programs_walk.proofs.conclude.Tie as tie

@@ -5,7 +5,7 @@ use native.Mathlib.Omega.{arith}
 use mathlib.Core.Path.{sym}
 use lib.Seq.{length-take-le}
 use borrow.Author.Tests.{not-true, not-false}
-use Rattle.session_walk.specs.Walk.{walk-after, text-for}
+use Rattle.session_walk_text.specs.Walk.{walk-after, text-for}
 use Rattle.programs_flow.proofs.Turns.{gone-on, stopped, turned, unturned}
 use Rattle.programs_walk.proofs.one_piece.Statement.{statement}
 use Rattle.programs_walk.proofs.one_piece.Tie as tie

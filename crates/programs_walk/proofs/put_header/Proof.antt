@@ -1,4 +1,4 @@
--- `programs_walk::put_header` meets its contract: what is lent has room for the header (proofs/Rooms). Assumes nothing.
+-- `programs_walk::put_header` meets its contract: what is lent has room for the header (session_walk_text/proofs/Rooms). Assumes nothing.
 use borrow.Author.Needs.{needs}
 use native.Mathlib.Omega.{arith}
 use Rattle.text.specs.Printed.{walk-header, header-room}

@@ -1,8 +1,8 @@
--- `programs_walk::put_last` meets its contract: what is lent has room for a line (proofs/Rooms). Assumes nothing.
+-- `programs_walk::put_last` meets its contract: what is lent has room for a line (session_walk_text/proofs/Rooms). Assumes nothing.
 use borrow.Author.Needs.{needs}
 use native.Mathlib.Omega.{arith}
 use Rattle.text.specs.Printed.{walk-room}
-use Rattle.session_walk.specs.Walk.{last-text}
+use Rattle.session_walk_text.specs.Walk.{last-text}
 use Rattle.programs_flow.proofs.Rooms.{put-roomy}
 use Rattle.programs_walk.proofs.put_last.Statement.{statement}
 use Rattle.programs_walk.proofs.put_last.Tie as tie

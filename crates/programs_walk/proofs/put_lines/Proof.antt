@@ -1,11 +1,11 @@
--- `programs_walk::put_lines` meets its contract: what is lent has room for a piece (proofs/Rooms). Assumes nothing.
+-- `programs_walk::put_lines` meets its contract: what is lent has room for a piece (session_walk_text/proofs/Rooms). Assumes nothing.
 use borrow.Author.Needs.{needs}
 use Prim.Native.Nat.{suc, _*_}
 use mathlib.Core.Path.{ap, _∙_}
 use lib.ListN.{length}
-use Rattle.session_walk.specs.declared.Fed.{Fed}
+use Rattle.session_walk_text.specs.declared.Fed.{Fed}
 use Rattle.programs_flow.proofs.Rooms.{with-room, put-front}
-use Rattle.programs_walk.proofs.Rooms.{walk-roomy}
+use Rattle.session_walk_text.proofs.Rooms.{walk-roomy}
 use Rattle.programs_walk.proofs.put_lines.Statement.{statement}
 use Rattle.programs_walk.proofs.put_lines.Tie as tie
 

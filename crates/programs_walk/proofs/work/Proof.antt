@@ -3,7 +3,7 @@ use borrow.Author.Needs.{needs}
 use mathlib.Core.Path.{refl}
 use mathlib.Core.Bool.{true}
 use Rattle.text.specs.Printed.{walk-header}
-use Rattle.session_walk.specs.Walk.{at-first, walk-after, text-for, last-text, printed}
+use Rattle.session_walk_text.specs.Walk.{at-first, walk-after, text-for, last-text, printed}
 use Rattle.programs_flow.proofs.Turns.{headed, whole}
 use Rattle.programs_walk.proofs.work.Statement.{statement}
 use Rattle.programs_walk.proofs.work.Tie as tie

@@ -1,6 +1,6 @@
 -- `session_walk::begin` meets its contract. Assumes nothing.
 use borrow.Author.Needs.{needs}
-use Rattle.session_walk.specs.Walk.{at-first}
+use Rattle.session_walk_text.specs.Walk.{at-first}
 use Rattle.session_walk.proofs.begin.Statement.{statement}
 use Rattle.session_walk.proofs.begin.Tie as tie
 

@@ -10,8 +10,8 @@ use lib.ListN.{length}
 use Rattle.kernel.specs.declared.Kernel.{Kernel}
 use Rattle.kernel.specs.Step.{tables}
 use Rattle.text.specs.Lines.{cut-of}
-use Rattle.session_walk.specs.declared.Walk.{Walk}
-use Rattle.session_walk.specs.Walk.{standing}
+use Rattle.session_walk_text.specs.declared.Walk.{Walk}
+use Rattle.session_walk_text.specs.Walk.{standing}
 use Rattle.session.proofs.Cuts.{next-whole, next-part, cuts-part, holds-part, cuts-none, holds-none}
 use Rattle.session_walk.proofs.Feeding.{Still, still-first, still-again, all-walked, no-room}
 use Rattle.session_walk.proofs.walk_through.Statement.{statement}

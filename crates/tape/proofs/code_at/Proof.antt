@@ -1,7 +1,7 @@
 -- `tape::code_at` meets its contract, by what its two calls ensure. Assumes nothing.
 use borrow.Author.Needs.{needs}
 use mathlib.Core.Path.{ap, _∙_}
-use Rattle.tape.specs.Read.{numberOf, codeAt}
+use Rattle.tape_form.specs.Read.{numberOf, codeAt}
 use Rattle.tape.proofs.code_at.Statement.{statement}
 use Rattle.tape.proofs.code_at.Tie as tie
 

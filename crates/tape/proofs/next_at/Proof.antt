@@ -1,7 +1,7 @@
 -- `tape::next_at` meets its contract, by what its two calls ensure. Assumes nothing.
 use borrow.Author.Needs.{needs}
 use mathlib.Core.Path.{ap, _∙_}
-use Rattle.tape.specs.Read.{placeOf, nextAt}
+use Rattle.tape_form.specs.Read.{placeOf, nextAt}
 use Rattle.tape.proofs.next_at.Statement.{statement}
 use Rattle.tape.proofs.next_at.Tie as tie
 

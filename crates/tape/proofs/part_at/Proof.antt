@@ -2,8 +2,8 @@
 use borrow.Author.Needs.{needs}
 use mathlib.Core.Path.{refl, ap, _∙_}
 use native.Mathlib.Omega.{arith}
-use Rattle.tape.specs.Read.{sizeOf}
-use Rattle.tape.proofs.Reading.{part-none, part-some}
+use Rattle.tape_form.specs.Read.{sizeOf}
+use Rattle.tape_form.proofs.Reading.{part-none, part-some}
 use Rattle.tape.proofs.part_at.Statement.{statement}
 use Rattle.tape.proofs.part_at.Tie as tie
 

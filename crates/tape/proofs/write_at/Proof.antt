@@ -7,7 +7,7 @@ use Prim.Native.Nat.{ℕ}
 use native.Mathlib.Omega.{arith}
 use lib.ListN.{take, drop}
 use Rattle.tape.proofs.Copy.{rest-long, put-back}
-use Rattle.tape.proofs.Writing.{write-not, write-is, write-room}
+use Rattle.tape_form.proofs.Writing.{write-not, write-is, write-room}
 use Rattle.tape.proofs.write_at.Statement.{statement}
 use Rattle.tape.proofs.write_at.Tie as tie
 

@@ -7,8 +7,8 @@ use native.Mathlib.Numerals.{add-one}
 use native.Mathlib.Omega.{arith}
 use lib.ListN.{length}
 use Rattle.record.specs.declared.Record.{Record}
-use Rattle.tape.specs.Write.{writeOf}
-use Rattle.tape.proofs.RoundTrip.{length-kept}
+use Rattle.tape_form.specs.Write.{writeOf}
+use Rattle.tape_form.proofs.RoundTrip.{length-kept}
 use Rattle.tape_bench.specs.Pass.{filled}
 use Rattle.tape_bench.proofs.fill.Statement.{statement}
 use Rattle.tape_bench.proofs.fill.Tie as tie

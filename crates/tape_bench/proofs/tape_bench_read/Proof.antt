@@ -4,7 +4,7 @@ use mathlib.Core.Path.{_≡_, refl, ap, _∙_}
 use Prim.Native.Nat.{_-_, _≤_}
 use native.Mathlib.Numerals.{add-one}
 use native.Mathlib.Omega.{arith}
-use Rattle.tape.specs.Read.{readOf}
+use Rattle.tape_form.specs.Read.{readOf}
 use Rattle.tape_bench.specs.declared.Pass.{Pass}
 use Rattle.tape_bench.specs.Pass.{turnOf, passed}
 use Rattle.tape_bench.proofs.tape_bench_read.Statement.{statement}

@@ -46,7 +46,7 @@ use denote.Triple.Spec.{Meets, tripleOf}
 use denote.Triple.Table.{entered, cited}
 use denote.Triple.Walked.{says, Stays, stay-ref, walkOf, goes-ref, Walks, ends-at, walked, walk-meets}
 use denote.Triple.Clauses.{ensured, lasts}
-use Rattle.tape.specs.Read.{codeAt, nextAt, PartAt as IsPart}
+use Rattle.tape_form.specs.Read.{codeAt, nextAt, PartAt as IsPart}
 use Rattle.tape_reader.specs.declared.Reader.{Reader}
 use Rattle.tape_reader.specs.declared.Part.{Part}
 use Rattle.tape_reader.proofs.Reader as T
