@@ -5,7 +5,7 @@ ghost use Rattle.rules.specs.Kinds.{kind};
 ghost use Rattle.rules_exceptions.specs.Exceptions.{whose-of, task-of, fresh};
 ghost use Rattle.kernel.specs.Public.{to-rules};
 ghost use Rattle.kernel_state.specs.Settle.{settled};
-ghost use Rattle.kernel_state.specs.Public.{encode, isSound, stepOf, leftOf};
+ghost use Rattle.kernel_state.specs.Public.{both, encode, isSound, stepOf, leftOf};
 use kernel::Command;
 use kernel::Kernel;
 use kernel::Left;
@@ -43,6 +43,14 @@ pub struct Stepped {
 pub struct Settled {
     pub pending: u32,
     pub exception: bool,
+}
+
+// A step, by its parts.
+fn made(kernel: Kernel, pending: u32, answer: Answer) -> Stepped
+    ensures { λ r. ⌜ r ≡ record { next = both kernel pending; answer = answer } ⌝ }
+{
+    let next = State { kernel, pending };
+    Stepped { next, answer }
 }
 
 // Whose exception a command sets.
@@ -112,17 +120,16 @@ impl State {
     pub fn step(self, c: Command) -> Stepped
         ensures { λ r. ⌜ r ≡ stepOf self (to-rules c) ⌝ }
     {
-        let old = self.kernel;
-        let mut base = old.base;
-        let mut ready = old.ready;
-        let mut delayed = old.delayed;
-        let mut held = old.held;
-        let mut way = old.way;
-        let mut until = old.until;
-        let mut ceiling = old.ceiling;
-        let mut waiter = old.waiter;
-        let mut clock = old.clock;
-        let mut started = old.started;
+        let mut base = self.kernel.base;
+        let mut ready = self.kernel.ready;
+        let mut delayed = self.kernel.delayed;
+        let mut held = self.kernel.held;
+        let mut way = self.kernel.way;
+        let mut until = self.kernel.until;
+        let mut ceiling = self.kernel.ceiling;
+        let mut waiter = self.kernel.waiter;
+        let mut clock = self.kernel.clock;
+        let mut started = self.kernel.started;
         let mut pending = self.pending;
         let answer = in_place::step(
             &mut base,
@@ -150,8 +157,7 @@ impl State {
             clock,
             started,
         };
-        let next = State { kernel, pending };
-        Stepped { next, answer }
+        made(kernel, pending, answer)
     }
 
     // "Wakes left" of a task, as Kernel::wakes_left has it.

@@ -6,8 +6,11 @@ use Rattle.kernel_state.proofs.State.step.Tie as tie
 step-requires : tie.Need-step-requires
 step-requires c κs = search needs
 
+made-requires : tie.Need-made-requires
+made-requires c κs = search needs
+
 returns : tie.Need-returns
-returns c = rw (c .step .ensures .0, c .step .ensures .1)
+returns c = rw (c .made .ensures, c .before .step .ensures .0, c .before .step .ensures .1)
 
 pub step-spec : {M : Type 1} → statement M
-step-spec = tie.close (tie.spec step-requires returns)
+step-spec = tie.close (tie.spec step-requires made-requires returns)
