@@ -1,6 +1,6 @@
-/* Bodies that end in an exception, on an image: each line of standard input is a command in its text, as walk reads it, and one line is printed for each
- * answer, walk's columns and behind them 1 where the answer shows the running task's exception. Prints what second/bin/exceptions2 prints. A line that is
- * no command ends it with 2. */
+/* Bodies that end in an exception, on an image: each line of standard input is a command in its text, and one line is printed for each answer, walk's columns
+ * and behind them 1 where the answer shows the running task's exception. Of command lines it prints what second/bin/exceptions2 prints. It is no reader of
+ * text: a word that is none ends it with 2, and operands are taken as they come (`failp 1` is stepped as `failp 1 0`, where walk answers 14). */
 #include <inttypes.h>
 #include <stdio.h>
 #include <stdlib.h>

@@ -42,11 +42,12 @@ extern "C" {
 #define RVN_CLOSEF 9   /* a = object: ends an open, as 8 with barrier 0 does */
 #define RVN_ENTRY 10   /* a = object, b = barrier: 1, the runner holds it, for an entry; 0, the runner waits on it */
 #define RVN_DONE 11    /* a = object, b = barrier 0 or 1: ends an entry; with 1 a waiting task is released */
-/* Bodies that end in an exception. Each moves tasks, and is refused, as the command that it is named with; see RVN_EXCEPTION. */
-#define RVN_FAILP 12   /* as 8: a procedure ends by an exception, which is the runner's */
-#define RVN_FAILF 13   /* as 9: a function ends by an exception, which is the runner's */
-#define RVN_FAILE 14   /* as 11: an entry ends by an exception, which is the runner's */
-#define RVN_FAILW 15   /* as 8: the waiting task's entry body failed meanwhile; the exception is the released task's, nobody's if none is released */
+/* Bodies that end in an exception. Each moves tasks, and is refused, as the op that its line names; see RVN_EXCEPTION. */
+#define RVN_FAILP 12   /* a = object, b = barrier 0 or 1, as 8: a procedure ends by an exception, which is the runner's */
+#define RVN_FAILF 13   /* a = object, as 9: a function ends by an exception, which is the runner's */
+#define RVN_FAILE 14   /* a = object, b = barrier 0 or 1, as 11: an entry ends by an exception, which is the runner's */
+#define RVN_FAILW 15   /* a = object, b = barrier 0 or 1, as 8: the waiting task's entry body failed meanwhile; the exception is the released task's, nobody's
+                          if none is released */
 
 /* Codes: 0, or the number of the refusal. Of several that hold, the answer is the first in the order 1, 4, 2 or 3, then 5 to 13; of a
  * draw in the order 1, 17, 18, 2. */
@@ -155,8 +156,8 @@ uint64_t rvn_draw_step(uint8_t *image, size_t length, uint32_t *seed, uint64_t s
 #define RVN_RUNNING(answer) (((answer) >> 8) & 255u)   /* the running task after the step, 0 before start */
 #define RVN_RELEASED(answer) (((answer) >> 16) & 255u) /* the released task, 0 for nobody */
 /* Set in an answer of rvn_step that shows an exception of the running task: answer & RVN_EXCEPTION. An exception that an op of 12..15 sets for a task
- * is shown once, by the first accepted answer that names the task as running, the op's own included; until then the image keeps it. A refusal never
- * has it. (Of rvn_draw the same bit is one of b's; of rvn_draw_step it stands in RVN_STEPPED(answer).) */
+ * is shown once, by the first accepted answer that names the task as running, the op's own included; until then the image keeps it, and a second
+ * one for that task adds nothing. A refusal never has it. (Of rvn_draw the same bit is one of b's; of rvn_draw_step it stands in RVN_STEPPED(answer).) */
 #define RVN_EXCEPTION 16777216u
 #define RVN_COUNT(answer) (((answer) >> 8) & 255u)     /* of rvn_wakes_left */
 #define RVN_OP(answer) (((answer) >> 8) & 255u)        /* of rvn_draw: the op, 0 where it is refused */
