@@ -3,7 +3,7 @@
 --  There is no ready line and no delay line in here.  Each task knows where
 --  it stands and when it came there; the front of a line is found by a
 --  search.  "Document 01" is the paper 01-scope.md; the words in quotes in
---  the comments are its own.
+--  the comments are its own, or, on exceptions, those of change request 6.
 
 package Machine is
 
