@@ -1,16 +1,16 @@
 -- What the code needs of bits, beside the laws of rules_exceptions. Assumes nothing.
-use Prim.Native.Nat.{ℕ, zero, suc, _+_, _*_, _-_, _/_, _%_, _≤_, _<_, _^_}
+use Prim.Native.Nat.{ℕ, _+_, _*_, _-_, _%_, _≤_, _<_, _^_}
 use native.Mathlib.Omega.{arith}
 use native.Mathlib.Numerals.{add-one}
 use native.Mathlib.Nat.{mod-eq-of-lt, pow-le-pow-right}
 use mathlib.Core.Path.{_≡_, refl, sym, ap, _∙_}
-use mathlib.Core.Bool.{Bool, true, false, cond, not, _&&_, _||_, true≢false}
+use mathlib.Core.Bool.{Bool, true, false, not, _&&_, _||_, true≢false}
 use mathlib.Core.List.{List}
-use lib.Dec.{eqb, ltb}
+use lib.Dec.{eqb}
 use borrow.Author.Tests.{lt-ltb, le-ltb, not-true, not-false}
 use Rattle.kernel_state.specs.Settle.{set-for}
 use Rattle.rules.specs.Line.{at, all-below}
-use Rattle.rules_exceptions.specs.Exceptions.{has, raised, cleared, pending-sound}
+use Rattle.rules_exceptions.specs.Exceptions.{has, cleared, pending-sound}
 use Rattle.rules_exceptions.proofs.Bits.{has-none, has-below, has-some, raised-below}
 use Rattle.rules_exceptions.proofs.Kept.{tests-pending}
 

@@ -1,21 +1,19 @@
 -- The kernel's step, and what its answer does to the pending exceptions, are together the rules' step of the whole state. Assumes nothing.
-use Prim.Native.Nat.{ℕ, _≤_, _<_}
+use Prim.Native.Nat.{ℕ}
 use native.Mathlib.Omega.{arith}
-use mathlib.Core.Path.{_≡_, refl, sym, ap, _∙_}
-use mathlib.Core.Logic.{_≢_}
-use mathlib.Core.Bool.{Bool, true, false, cond, _&&_, and-false}
+use mathlib.Core.Path.{_≡_, refl, sym, ap}
+use mathlib.Core.Bool.{Bool, true, false, _&&_, and-false}
 use lib.Dec.{eqb, ltb}
 use borrow.Author.Tests.{eqb-true, eqb-false, lt-ltb}
 use Rattle.rules.specs.Machine.{Machine, Command, runner, running}
 use Rattle.rules.specs.declared.Whose.{Whose}
 use Rattle.rules.specs.Kinds.{kind}
-use Rattle.rules.specs.Refusals.{refusal}
 use Rattle.rules.specs.Run.{accepts, released}
 use Rattle.rules.specs.Run as R
 use Rattle.rules.specs.Sound as S
 use Rattle.rules.proofs.Tests.{both-true}
 use Rattle.rules.proofs.Sounds.{Sound, tests-sound, known}
-use Rattle.rules_exceptions.specs.Exceptions.{State, has, raised, cleared, whose-of, task-of, fails, pending-sound, next, answer, sound}
+use Rattle.rules_exceptions.specs.Exceptions.{whose-of, fails, pending-sound, next, answer, sound}
 use Rattle.rules_exceptions.proofs.Kept.{fails-stands}
 use Rattle.kernel.specs.declared.Kernel.{Kernel}
 use Rattle.kernel.specs.View.{tidy}
@@ -29,7 +27,7 @@ use Rattle.kernel_ready.specs.Ready.{task}
 use Rattle.kernel_state.specs.declared.Stepped.{Stepped}
 use Rattle.kernel_state.specs.declared.Answer.{Answer}
 use Rattle.kernel_state.specs.declared.Settled.{Settled}
-use Rattle.kernel_state.specs.Settle.{set-for, settled}
+use Rattle.kernel_state.specs.Settle.{settled}
 use Rattle.kernel_state.specs.Public.{both, view, encode, isSound, answerOf, report, ends, shape, stepOf, leftOf}
 
 -- The two steps together.

@@ -1,7 +1,7 @@
 // Pending exceptions as bits of one number.
 ghost use mathlib.Core.Path.{_≡_};
 ghost use Prim.Native.Nat.{_<_, _^_};
-ghost use Rattle.rules_exceptions.specs.Exceptions.{has, raised, cleared, pending-sound};
+ghost use Rattle.rules_exceptions.specs.Exceptions.{has, cleared, pending-sound};
 ghost use Rattle.kernel_state.specs.Settle.{set-for};
 use kernel_line::TaskID;
 use kernel_line::of_task;

@@ -153,6 +153,3 @@ same-bits (suc n) p q h k e =
     same-left : (b : Bool) → has p 0 ≡ b → has q 0 ≡ has p 0 → p % 2 ≡ q % 2
     same-left true f g = odd p f ∙ sym (odd q (g ∙ f))
     same-left false f g = even p f ∙ sym (even q (g ∙ f))
-
-pub no-bits : (n p : ℕ) → p < 2 ^ n → ((t : ℕ) → t < n → has p t ≡ false) → p ≡ 0
-no-bits n p h e = same-bits n p 0 h (omega arith) (λ t k. e t k ∙ sym (has-none t))

@@ -1,5 +1,4 @@
 -- `bits::set_for` meets its contract. Assumes nothing.
-use native.Mathlib.Omega.{arith}
 use borrow.Author.Needs.{needs}
 use Rattle.kernel_state.proofs.Laws.{set-beyond, set-kept, set-more, set-fits}
 use Rattle.kernel_state.proofs.bits.set_for.Statement.{statement}
