@@ -13,8 +13,8 @@ use Rattle.rules.specs.Run as R
 use Rattle.rules.specs.Sound as S
 use Rattle.rules.proofs.Tests.{both-true}
 use Rattle.rules.proofs.Sounds.{Sound, tests-sound, known}
-use Rattle.rules_exceptions.specs.Exceptions.{whose-of, fails, pending-sound, next, answer, sound}
-use Rattle.rules_exceptions.proofs.Kept.{fails-stands}
+use Rattle.rules_exceptions.specs.Exceptions.{whose-of, owner, pending-sound, next, answer, sound}
+use Rattle.rules_exceptions.proofs.Kept.{owner-stands}
 use Rattle.kernel.specs.declared.Kernel.{Kernel}
 use Rattle.kernel.specs.View.{tidy}
 use Rattle.kernel.specs.View as K
@@ -41,12 +41,12 @@ together k p c =
     }
 
 -- whom an accepted command sets one for is a task, if it is anybody
-fails-few : (m : Machine) → Sound m → (c : Command) → ltb (fails m c) 32 ≡ true
-fails-few m s c = go (eqb (fails m c) 0) refl
+owner-few : (m : Machine) → Sound m → (c : Command) → ltb (owner m c) 32 ≡ true
+owner-few m s c = go (eqb (owner m c) 0) refl
   where
-    go : (b : Bool) → eqb (fails m c) 0 ≡ b → ltb (fails m c) 32 ≡ true
-    go true e = lt-ltb (fails m c) 32 (omega (arith, eqb-true (fails m c) 0 e))
-    go false e = lt-ltb (fails m c) 32 (known m s (fails m c) (fails-stands m s c (eqb-false _ _ e)))
+    go : (b : Bool) → eqb (owner m c) 0 ≡ b → ltb (owner m c) 32 ≡ true
+    go true e = lt-ltb (owner m c) 32 (omega (arith, eqb-true (owner m c) 0 e))
+    go false e = lt-ltb (owner m c) 32 (known m s (owner m c) (owner-stands m s c (eqb-false _ _ e)))
 
 -- A state is sound just when its tables are and what is pending is.
 pub sound-parts : (k : Kernel) (p : ℕ) → isSound (both k p) ≡ (P.isSound k && pending-sound (k .started) (k .base) p)
@@ -79,7 +79,7 @@ settles k p c h = go (P.isSound k) (accepts (K.view k) c) refl refl
     m = K.view k
 
     go : (b ok : Bool) → P.isSound k ≡ b → accepts (K.view k) c ≡ ok → together k p c ≡ stepOf (both k p) c
-    go true true e a = rw (sound-parts k p, e, h, a, ran k, fails-few m (stands k e) c)
+    go true true e a = rw (sound-parts k p, e, h, a, ran k, owner-few m (stands k e) c)
     go true false e a = rw (sound-parts k p, e, h, a, unmoved m c a)
     go false ok e a = rw (sound-parts k p, e)
 

@@ -63,7 +63,7 @@ pub fn whose(c: Command) -> Whose
     }
 }
 
-// The task that this is, by who ran before the command and whom it released: 0 for nobody.
+// Whose, as a task number: by who ran before the command, and whom it released. 0 is nobody.
 fn task_of(w: Whose, closer: u8, freed: u8) -> u8
     ensures { λ r. ⌜ r ≡ task-of w closer freed ⌝ }
 {
@@ -105,7 +105,7 @@ impl State {
         }
     }
 
-    // The tables are those of a sound machine, and what is pending is of its created tasks, after Start.
+    // The tables are those of a sound machine, and what is pending is of created tasks 1..31, after Start.
     pub fn sound(self) -> bool
         ensures { λ r. ⌜ r ≡ isSound self ⌝ }
     {

@@ -16,10 +16,10 @@ use Rattle.rules.specs.Run.{accepts, released}
 use Rattle.rules.specs.Run as R
 use Rattle.rules.proofs.Words.{cmd}
 use Rattle.rules.proofs.Tests.{both-true}
-use Rattle.rules_exceptions.specs.Exceptions.{fails, whose-of, task-of, next, answer, run, fresh, sound, pending-sound}
+use Rattle.rules_exceptions.specs.Exceptions.{owner, whose-of, task-of, next, answer, run, fresh, sound, pending-sound}
 use Rattle.rules_exceptions.specs.Exceptions as X
 use Rattle.rules_exceptions.specs.Words.{sets, Unshown}
-use Rattle.rules_exceptions.proofs.Kept.{Sounds, tests-state, fresh-sound, next-sound, run-sound, idle-none, fails-started}
+use Rattle.rules_exceptions.proofs.Kept.{Sounds, tests-state, fresh-sound, next-sound, run-sound, idle-none, owner-started}
 use Rattle.rules_exceptions.proofs.Theorems as theorems
 use Rattle.kernel_checks.specs.declared.Command.{Command}
 use Rattle.kernel.specs.View.{tidy}
@@ -195,8 +195,8 @@ ran s e c ok Runner q = front-idle (s .kernel .ready) ∙ go (eqb (runner m) 0) 
         same-either true = refl
         same-either false = refl
     go false z =
-        let n : fails m c ≢ 0 = rw q (eqb-false _ _ z) in
-        rw (fails-started m (stands s e .reads .machine) c ok n)
+        let n : owner m c ≢ 0 = rw q (eqb-false _ _ z) in
+        rw (owner-started m (stands s e .reads .machine) c ok n)
 
 pub whose-it-is : WhoseItIs
 unfolding stepOf answer

@@ -8,7 +8,7 @@ use mathlib.Core.Bool.{true, false}
 use mathlib.Core.List.{List, [], _∷_, map}
 use Rattle.rules.specs.Kinds.{kind}
 use Rattle.rules.proofs.Words.{All, cmd}
-use Rattle.rules_exceptions.specs.Exceptions.{has, fails, whose-of, task-of, run, fresh}
+use Rattle.rules_exceptions.specs.Exceptions.{has, owner, whose-of, task-of, run, fresh}
 use Rattle.rules_exceptions.specs.Words.{matching, sets, Unshown, SetUnshown}
 use Rattle.kernel_checks.specs.declared.Command.{Command}
 use Rattle.kernel.specs.declared.command.Answer as tables
@@ -91,7 +91,7 @@ ClosingsMoveAlike =
 
 abbrev pub SecondChangesNothing : Type 0
 SecondChangesNothing =
-    All {A = ℕ × ℕ} (λ x. (s : State) (a b v : ℕ) → has (s .pending) (fails (view s .machine) (cmd (x .0) a b v)) ≡ true
+    All {A = ℕ × ℕ} (λ x. (s : State) (a b v : ℕ) → has (s .pending) (owner (view s .machine) (cmd (x .0) a b v)) ≡ true
     → stepOf s (cmd (x .0) a b v) ≡ stepOf s (cmd (x .1) a b v)) matching
 
 -- ## Whose it is
@@ -101,7 +101,7 @@ SecondChangesNothing =
 abbrev pub WhoseItIs : Type 0
 WhoseItIs =
     (s : State) (c : Command) → isSound s ≡ true → steppedState s c .answer .code ≡ 0
-    → fails (view s .machine) (to-rules c)
+    → owner (view s .machine) (to-rules c)
     ≡ task-of (whose-of (kind (to-rules c))) (runningOf (s .kernel)) (steppedState s c .answer .released .0)
 
 -- ## The promise on exceptions

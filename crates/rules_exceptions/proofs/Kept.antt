@@ -27,7 +27,7 @@ use Rattle.rules.proofs.Accepted.{Allowed, allowed, rel-of}
 use Rattle.rules.proofs.Step.{Step, kept, carried, step, moved-started}
 use Rattle.rules.proofs.Step as Rules
 use Rattle.rules.proofs.Release.{front-counts, freed-of, next-tables}
-use Rattle.rules_exceptions.specs.Exceptions.{State, has, raised, cleared, whose-of, task-of, fails, told, next, run, fresh, pending-sound, sound}
+use Rattle.rules_exceptions.specs.Exceptions.{State, has, raised, cleared, whose-of, task-of, owner, pending-then, next, run, fresh, pending-sound, sound}
 use Rattle.rules_exceptions.proofs.Bits.{has-none, has-set, has-idle, has-cleared, has-below, raised-below, cleared-below}
 
 -- What the test of the pending exceptions says, and nothing else (`tests-pending`).
@@ -87,16 +87,16 @@ module _ (m : Machine) (s : Sound m) (c : Command) where
           let q : released m c ≡ front 0 (freed rel m) = f ∙ freed-of (effect m c) m in
           rw q (omega (arith, front-counts (freed rel m) (λ z. n (q ∙ z)), freed-elsewhere m s rel (front 0 (freed rel m))))
 
-  pub fails-stands : fails m c ≢ 0 → 1 ≤ standings m (fails m c)
-  fails-stands n = go (whose-of (kind c)) n
+  pub owner-stands : owner m c ≢ 0 → 1 ≤ standings m (owner m c)
+  owner-stands n = go (whose-of (kind c)) n
     where
       go : (w : Whose) → task-of w (runner m) (released m c) ≢ 0 → 1 ≤ standings m (task-of w (runner m) (released m c))
       go Nobody n = absurd (n refl)
       go Runner n = omega (arith, runner-there m s)
       go Released n = released-stands n
 
-  pub fails-started : accepts m c ≡ true → fails m c ≢ 0 → m .started ≡ true
-  fails-started ok n = go (kind c) (allowed m s c (eqb-true _ _ ok)) n
+  pub owner-started : accepts m c ≡ true → owner m c ≢ 0 → m .started ≡ true
+  owner-started ok n = go (kind c) (allowed m s c (eqb-true _ _ ok)) n
     where
       go : (k : Kind) → Allowed m (effect-of k m c) → task-of (whose-of k) (runner m) (released m c) ≢ 0 → m .started ≡ true
       go NoKind g n = absurd (n refl)
@@ -127,26 +127,26 @@ module _ (m : Machine) (s : Sound m) (c : Command) where
       go (carried e f w g) = rw e (by-effect (effect m c) g)
 
   -- One is pending behind an accepted command, before its answer: it was, or this command sets it.
-  told-sound : accepts m c ≡ true → (p : ℕ) → PendingSound (m .started) (m .base) p → PendingSound (m .started) (m .base) (raised p (fails m c))
-  told-sound ok p g = record {
-    few = below (eqb (fails m c) 0) refl;
+  pending-then-sound : accepts m c ≡ true → (p : ℕ) → PendingSound (m .started) (m .base) p → PendingSound (m .started) (m .base) (raised p (owner m c))
+  pending-then-sound ok p g = record {
+    few = below (eqb (owner m c) 0) refl;
     whose = λ t e. ⊎-elim (idle t e) (λ (n : t ≢ 0). other t e n (has p t) refl) (eq-or-ne t 0);
   }
     where
-      below : (b : Bool) → eqb (fails m c) 0 ≡ b → raised p (fails m c) < 2 ^ task-count
-      below true e = rw (eqb-true (fails m c) 0 e) (g .few)
-      below false e = raised-below task-count p (fails m c) (g .few) (known m s (fails m c) (fails-stands (eqb-false _ _ e)))
+      below : (b : Bool) → eqb (owner m c) 0 ≡ b → raised p (owner m c) < 2 ^ task-count
+      below true e = rw (eqb-true (owner m c) 0 e) (g .few)
+      below false e = raised-below task-count p (owner m c) (g .few) (known m s (owner m c) (owner-stands (eqb-false _ _ e)))
 
-      idle : (t : ℕ) → has (raised p (fails m c)) t ≡ true → t ≡ 0 → (m .started ≡ true) × (t ≢ 0) × (at (m .base) t ≢ 0)
-      idle t e z = absurd (g .whose 0 (sym (has-idle p (fails m c)) ∙ (rw z at e)) .1 refl)
+      idle : (t : ℕ) → has (raised p (owner m c)) t ≡ true → t ≡ 0 → (m .started ≡ true) × (t ≢ 0) × (at (m .base) t ≢ 0)
+      idle t e z = absurd (g .whose 0 (sym (has-idle p (owner m c)) ∙ (rw z at e)) .1 refl)
 
-      set : fails m c ≢ 0 → (m .started ≡ true) × (fails m c ≢ 0) × (at (m .base) (fails m c) ≢ 0)
-      set n = let b = based m s (fails m c) (fails-stands n) n in (fails-started ok n, n, λ z. omega arith)
+      set : owner m c ≢ 0 → (m .started ≡ true) × (owner m c ≢ 0) × (at (m .base) (owner m c) ≢ 0)
+      set n = let b = based m s (owner m c) (owner-stands n) n in (owner-started ok n, n, λ z. omega arith)
 
-      other : (t : ℕ) → has (raised p (fails m c)) t ≡ true → t ≢ 0 → (b : Bool) → has p t ≡ b → (m .started ≡ true) × (t ≢ 0) × (at (m .base) t ≢ 0)
+      other : (t : ℕ) → has (raised p (owner m c)) t ≡ true → t ≢ 0 → (b : Bool) → has p t ≡ b → (m .started ≡ true) × (t ≢ 0) × (at (m .base) t ≢ 0)
       other t e n true h = g .whose t h
       other t e n false h =
-          let q : fails m c ≡ t = eqb-true _ _ (rw h at (sym (has-set p (fails m c) t n) ∙ e)) in
+          let q : owner m c ≡ t = eqb-true _ _ (rw h at (sym (has-set p (owner m c) t n) ∙ e)) in
           rw q at (set (λ z. n (sym q ∙ z)))
 
 -- An answer clears one, and sets none.
@@ -174,10 +174,10 @@ next-sound s k c = go (accepts (s .machine) c) refl
     m : Machine
     m = s .machine
 
-    go : (b : Bool) → accepts m c ≡ b → Sounds (cond b (record { machine = R.next m c; pending = cleared (told s c) (running (R.next m c)) }) s)
+    go : (b : Bool) → accepts m c ≡ b → Sounds (cond b (record { machine = R.next m c; pending = cleared (pending-then s c) (running (R.next m c)) }) s)
     go true e = record {
       machine = Rules.next-sound m (k .machine) c;
-      pending = cleared-sound _ _ _ _ (moved-sound m (k .machine) c _ (told-sound m (k .machine) c e (s .pending) (k .pending)));
+      pending = cleared-sound _ _ _ _ (moved-sound m (k .machine) c _ (pending-then-sound m (k .machine) c e (s .pending) (k .pending)));
     }
     go false e = k
 

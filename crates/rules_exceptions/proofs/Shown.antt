@@ -12,7 +12,7 @@ use Rattle.rules.specs.Machine.{Machine, Command, running}
 use Rattle.rules.specs.Run.{accepts}
 use Rattle.rules.specs.Run as R
 use Rattle.rules.proofs.Tests.{both-true}
-use Rattle.rules_exceptions.specs.Exceptions.{State, has, cleared, fails, told, next, run}
+use Rattle.rules_exceptions.specs.Exceptions.{State, has, cleared, owner, pending-then, next, run}
 use Rattle.rules_exceptions.specs.Words.{names, sets, Silent, Unshown, from-start, set-by, SetUnshown}
 use Rattle.rules_exceptions.proofs.Bits.{has-set, has-idle, has-cleared}
 
@@ -25,11 +25,11 @@ step-has s c t n = go (accepts m c)
     m = s .machine
 
     go : (b : Bool)
-        → has (cond b (record { machine = R.next m c; pending = cleared (told s c) (running (R.next m c)) }) s .pending) t
-        ≡ ((has (s .pending) t || (b && eqb (fails m c) t)) && not (b && eqb (running (R.next m c)) t))
+        → has (cond b (record { machine = R.next m c; pending = cleared (pending-then s c) (running (R.next m c)) }) s .pending) t
+        ≡ ((has (s .pending) t || (b && eqb (owner m c) t)) && not (b && eqb (running (R.next m c)) t))
     go true =
-        has-cleared (told s c) (running (R.next m c)) t ∙
-        ap (λ (b : Bool). b && not (eqb (running (R.next m c)) t)) (has-set (s .pending) (fails m c) t n)
+        has-cleared (pending-then s c) (running (R.next m c)) t ∙
+        ap (λ (b : Bool). b && not (eqb (running (R.next m c)) t)) (has-set (s .pending) (owner m c) t n)
     go false = sym (and-true _ ∙ or-false (has (s .pending) t))
 
 -- idle's bit stays 0
@@ -40,10 +40,10 @@ step-idle s c e = go (accepts (s .machine) c)
     m : Machine
     m = s .machine
 
-    go : (b : Bool) → has (cond b (record { machine = R.next m c; pending = cleared (told s c) (running (R.next m c)) }) s .pending) 0 ≡ false
+    go : (b : Bool) → has (cond b (record { machine = R.next m c; pending = cleared (pending-then s c) (running (R.next m c)) }) s .pending) 0 ≡ false
     go true =
-        has-cleared (told s c) (running (R.next m c)) 0 ∙
-        ap (λ (b : Bool). b && not (eqb (running (R.next m c)) 0)) (has-idle (s .pending) (fails m c) ∙ e)
+        has-cleared (pending-then s c) (running (R.next m c)) 0 ∙
+        ap (λ (b : Bool). b && not (eqb (running (R.next m c)) 0)) (has-idle (s .pending) (owner m c) ∙ e)
     go false = e
 
 pub run-idle : (cs : List Command) (s : State) → has (s .pending) 0 ≡ false → has (run s cs .pending) 0 ≡ false
@@ -59,8 +59,8 @@ step-runner s c e = go (accepts (s .machine) c)
     m : Machine
     m = R.next (s .machine) c
 
-    go : (b : Bool) → let n = cond b (record { machine = m; pending = cleared (told s c) (running m) }) s in has (n .pending) (running (n .machine)) ≡ false
-    go true = has-cleared (told s c) (running m) (running m) ∙ rw (eq-eqb (running m) (running m) refl) (and-false (has (told s c) (running m)))
+    go : (b : Bool) → let n = cond b (record { machine = m; pending = cleared (pending-then s c) (running m) }) s in has (n .pending) (running (n .machine)) ≡ false
+    go true = has-cleared (pending-then s c) (running m) (running m) ∙ rw (eq-eqb (running m) (running m) refl) (and-false (has (pending-then s c) (running m)))
     go false = e
 
 pub run-runner : (cs : List Command) (s : State) → has (s .pending) (running (s .machine)) ≡ false

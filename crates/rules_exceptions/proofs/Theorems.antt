@@ -19,7 +19,7 @@ use Rattle.rules.specs.Run as R
 use Rattle.rules.proofs.Words.{All, Among, cmd}
 use Rattle.rules.proofs.Tests.{both-true}
 use Rattle.rules.proofs.Accepted.{each-op}
-use Rattle.rules_exceptions.specs.Exceptions.{State, has, raised, cleared, fails, whose-of, task-of, told, next, Answer, answer, run, answers}
+use Rattle.rules_exceptions.specs.Exceptions.{State, has, raised, cleared, owner, whose-of, task-of, pending-then, next, Answer, answer, run, answers}
 use Rattle.rules_exceptions.specs.Exceptions.{fresh, sound}
 use Rattle.rules_exceptions.specs.Words.{matching, names, sets, Silent, Unshown, from-start, set-by, SetUnshown}
 use Rattle.rules_exceptions.proofs.Bits.{has-none, has-set, has-idle, raised-kept}
@@ -47,7 +47,7 @@ machine-moves s c = go (accepts m c) refl
     m = s .machine
 
     go : (b : Bool) → accepts m c ≡ b
-        → cond b (record { machine = R.next m c; pending = cleared (told s c) (running (R.next m c)) }) s .machine ≡ R.next m c
+        → cond b (record { machine = R.next m c; pending = cleared (pending-then s c) (running (R.next m c)) }) s .machine ≡ R.next m c
     go true e = refl
     go false e = rw e
 
@@ -93,11 +93,11 @@ run-keeps-sound s cs e = tests-state (run s cs) .found (run-sound cs s (tests-st
 -- By 12, 13 and 14 it is the runner's, by 15 the released task's, 0 if none was; no other command sets one.
 -- Rules out: a waiter's exception that the closer gets; closings without one that set one. Leaves: when it is shown (below).
 pub whose-exception : (m : Machine) (a b v : ℕ) →
-    (fails m (cmd 12 a b v) ≡ runner m) × (fails m (cmd 13 a b v) ≡ runner m) × (fails m (cmd 14 a b v) ≡ runner m)
-    × (fails m (cmd 15 a b v) ≡ released m (cmd 15 a b v))
+    (owner m (cmd 12 a b v) ≡ runner m) × (owner m (cmd 13 a b v) ≡ runner m) × (owner m (cmd 14 a b v) ≡ runner m)
+    × (owner m (cmd 15 a b v) ≡ released m (cmd 15 a b v))
 whose-exception m a b v = (refl, refl, refl, refl)
 
-pub set-by-these : (m : Machine) (c : Command) → fails m c ≢ 0 → Among (12 ∷ 13 ∷ 14 ∷ 15 ∷ []) (c .op)
+pub set-by-these : (m : Machine) (c : Command) → owner m c ≢ 0 → Among (12 ∷ 13 ∷ 14 ∷ 15 ∷ []) (c .op)
 unfolding all-below
 set-by-these m c n = go (whose-of (kind c)) (each-op (λ op k. nobodys (whose-of k) || leb 1 (count op failing)) refl (λ op. refl) (c .op)) n
   where
@@ -117,11 +117,11 @@ set-by-these m c n = go (whose-of (kind c)) (each-op (λ op k. nobodys (whose-of
 -- One for nobody changes nothing; nor does one for a task with one pending, which keeps the older: then 12, 13, 14 and 15 leave the very state, and
 -- give the very answer, that 8, 9, 11 and 8 do.
 -- Rules out: a second that is counted, or is set for another task. Leaves: that the older is shown (below).
-pub nobodys-changes-nothing : (s : State) (c : Command) → fails (s .machine) c ≡ 0 → told s c ≡ s .pending
+pub nobodys-changes-nothing : (s : State) (c : Command) → owner (s .machine) c ≡ 0 → pending-then s c ≡ s .pending
 nobodys-changes-nothing s c e = ap (raised (s .pending)) e
 
 pub second-changes-nothing :
-    All {A = ℕ × ℕ} (λ x. (s : State) (a b v : ℕ) → has (s .pending) (fails (s .machine) (cmd (x .0) a b v)) ≡ true
+    All {A = ℕ × ℕ} (λ x. (s : State) (a b v : ℕ) → has (s .pending) (owner (s .machine) (cmd (x .0) a b v)) ≡ true
     → (next s (cmd (x .0) a b v) ≡ next s (cmd (x .1) a b v)) × (answer s (cmd (x .0) a b v) ≡ answer s (cmd (x .1) a b v)))
     matching
 unfolding next answer R.next R.released refusal
@@ -163,9 +163,9 @@ shown-exactly s cs d n = (λ e. shown (both-true _ _ e), λ w. rw (eq-eqb (refus
     t = running (R.next (now .machine) d)
 
     f : ℕ
-    f = fails (now .machine) d
+    f = owner (now .machine) d
 
-    shown : (accepts (now .machine) d ≡ true) × (has (told now d) t ≡ true) → (refusal (now .machine) d ≡ 0) × (Unshown t s cs ⊎ (sets now d t ≡ true))
+    shown : (accepts (now .machine) d ≡ true) × (has (pending-then now d) t ≡ true) → (refusal (now .machine) d ≡ 0) × (Unshown t s cs ⊎ (sets now d t ≡ true))
     shown w = (eqb-true _ _ (w .0), go (has (now .pending) t) refl (sym (has-set (now .pending) f t n) ∙ w .1))
       where
         go : (b : Bool) → has (now .pending) t ≡ b → (has (now .pending) t || eqb f t) ≡ true → Unshown t s cs ⊎ (sets now d t ≡ true)
@@ -233,8 +233,8 @@ pub idle-never : (s : State) (cs : List Command) (d : Command) → has (s .pendi
 unfolding answer
 idle-never s cs d e r =
     let now = run s cs in
-    let none : has (told now d) (running (R.next (now .machine) d)) ≡ false =
-    ap (λ (t : ℕ). has (told now d) t) r ∙ (has-idle (now .pending) (fails (now .machine) d) ∙ run-idle cs s e) in
+    let none : has (pending-then now d) (running (R.next (now .machine) d)) ≡ false =
+    ap (λ (t : ℕ). has (pending-then now d) t) r ∙ (has-idle (now .pending) (owner (now .machine) d) ∙ run-idle cs s e) in
     rw none (and-false (accepts (now .machine) d))
 
 -- So, from a sound state: an answer that shows one is accepted, and names a task, not idle, for which one was set and not shown since. And from the

@@ -49,26 +49,26 @@ whose-of Opening = Nobody
 whose-of Entering = Nobody
 whose-of (Ending e) = e .whose
 
--- the task that this is, 0 for nobody, by who ran before the command and whom it released
+-- Whose, as a task number: by who ran before the command, and whom it released. 0 is nobody.
 abbrev pub task-of : Whose → ℕ → ℕ → ℕ
 task-of Nobody closer freed = 0
 task-of Runner closer freed = closer
 task-of Released closer freed = freed
 
 -- The task that a command, accepted, sets an exception for: the runner, or the task that it releases; 0 for nobody.
-abbrev pub fails : Machine → Command → ℕ
-fails m c = task-of (whose-of (kind c)) (runner m) (released m c)
+abbrev pub owner : Machine → Command → ℕ
+owner m c = task-of (whose-of (kind c)) (runner m) (released m c)
 
 -- What is pending when a command has been carried out, and its answer is not yet given.
-abbrev pub told : State → Command → ℕ
-told s c = raised (s .pending) (fails (s .machine) c)
+abbrev pub pending-then : State → Command → ℕ
+pending-then s c = raised (s .pending) (owner (s .machine) c)
 
 -- The state after a command. Its answer, if it is accepted, shows the exception of the task that it names as running,
 -- and so clears it. A refused command changes nothing.
 unfoldable pub next : State → Command → State
 next s c =
     let m = R.next (s .machine) c in
-    cond (accepts (s .machine) c) (record { machine = m; pending = cleared (told s c) (running m) }) s
+    cond (accepts (s .machine) c) (record { machine = m; pending = cleared (pending-then s c) (running m) }) s
 
 -- The answer: the rules', and whether it shows an exception of the running task.
 pub record Answer : Type 0 where
@@ -84,7 +84,7 @@ answer s c =
       code = refusal (s .machine) c;
       running = running m;
       released = released (s .machine) c;
-      exception = accepts (s .machine) c && has (told s c) (running m);
+      exception = accepts (s .machine) c && has (pending-then s c) (running m);
     }
 
 -- A run: the state behind some commands, and the answers on the way.

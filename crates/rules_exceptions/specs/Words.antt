@@ -7,7 +7,7 @@ use lib.Dec.{eqb}
 use Rattle.rules.specs.Machine.{Command, running}
 use Rattle.rules.specs.Run.{accepts}
 use Rattle.rules.specs.Run as R
-use Rattle.rules_exceptions.specs.Exceptions.{State, has, fails, next, run}
+use Rattle.rules_exceptions.specs.Exceptions.{State, has, owner, next, run}
 
 -- The ops that end a body by an exception, each with the op that moves tasks alike.
 abbrev pub matching : List (ℕ × ℕ)
@@ -19,7 +19,7 @@ names s c t = accepts (s .machine) c && eqb (running (R.next (s .machine) c)) t
 
 -- The command is accepted, and sets an exception for task t, which is not 0.
 abbrev pub sets : State → Command → ℕ → Bool
-sets s c t = accepts (s .machine) c && eqb (fails (s .machine) c) t
+sets s c t = accepts (s .machine) c && eqb (owner (s .machine) c) t
 
 -- No accepted answer of the run names t as running.
 abbrev pub Silent : ℕ → State → List Command → Type 0
