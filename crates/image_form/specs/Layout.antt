@@ -67,9 +67,12 @@ kernelOf s = record {
 unfoldable pub pendingOf : List ℕ → ℕ
 pendingOf s = getD s 192 0 + 256 * getD s 193 0 + 65536 * getD s 194 0 + 16777216 * getD s 195 0
 
--- The state that bytes hold, whatever it is.
+-- Tables with what is pending, as one state; and the state that bytes hold, whatever it is.
+abbrev pub with-pending : Kernel → ℕ → State
+with-pending k p = record { kernel = k; pending = p }
+
 abbrev pub stateOf : List ℕ → State
-stateOf s = record { kernel = kernelOf s; pending = pendingOf s }
+stateOf s = with-pending (kernelOf s) (pendingOf s)
 
 -- What the state does not use is as it must be: byte 8 is 0 or 1, and every spare byte is 0.
 unfoldable pub clean : List ℕ → Bool
