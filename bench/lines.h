@@ -51,7 +51,7 @@ static inline char *put(char *to, uint64_t n, char end) {
 static inline char *put_answer(char *to, answer r, uint64_t clock) {
     to = put(to, r & 255, ' ');
     to = put(to, r >> 8 & 255, ' ');
-    to = put(to, r >> 16, ' ');
+    to = put(to, r >> 16 & 255, ' ');
     return put(to, clock, '\n');
 }
 
@@ -76,7 +76,9 @@ static inline const char *number(const char *p, const char *end, uint64_t most, 
 static inline unsigned named(const char *p, size_t n) {
     switch (n) {
     case 4: return !memcmp(p, "wake", 4) ? 5 : !memcmp(p, "open", 4) ? 7 : !memcmp(p, "done", 4) ? 11 : 0;
-    case 5: return !memcmp(p, "delay", 5) ? 4 : !memcmp(p, "entry", 5) ? 10 : !memcmp(p, "start", 5) ? 3 : 0;
+    case 5:
+        if (!memcmp(p, "fail", 4)) return p[4] == 'p' ? 12 : p[4] == 'f' ? 13 : p[4] == 'e' ? 14 : p[4] == 'w' ? 15 : 0;
+        return !memcmp(p, "delay", 5) ? 4 : !memcmp(p, "entry", 5) ? 10 : !memcmp(p, "start", 5) ? 3 : 0;
     case 6: return !memcmp(p, "closep", 6) ? 8 : !memcmp(p, "closef", 6) ? 9 : !memcmp(p, "create", 6) ? 1 : !memcmp(p, "object", 6) ? 2 : 0;
     case 7: return !memcmp(p, "advance", 7) ? 6 : 0;
     default: return 0;
@@ -84,7 +86,7 @@ static inline unsigned named(const char *p, size_t n) {
 }
 
 /* operands in use: a is 1, b is 2, value is 4 */
-static const uint8_t uses[12] = { 0, 3, 3, 0, 4, 0, 4, 1, 3, 1, 3, 3 };
+static const uint8_t uses[16] = { 0, 3, 3, 0, 4, 0, 4, 1, 3, 1, 3, 3, 3, 1, 3, 3 };
 
 /* Whether the line says a command. */
 static bool said(const char *p, const char *end, command *c) {

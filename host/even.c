@@ -89,11 +89,12 @@ static int numbers(const char *line, uint64_t *to, int room)
 /* 1 if the line is a command that is accepted. */
 static int command(const char *line)
 {
-    static const char *const words[] = {"create", "object", "start", "delay", "wake", "advance", "open", "closep", "closef", "entry", "done"};
+    static const char *const words[] = {"create", "object", "start", "delay", "wake", "advance", "open", "closep", "closef", "entry", "done",
+                                        "failp", "failf", "faile", "failw"};
     uint64_t n[2] = {0, 0};
     size_t length = strcspn(line, " ");
     numbers(line, n, 2);
-    for (uint64_t op = RVN_CREATE; op <= RVN_DONE; op++) {
+    for (uint64_t op = RVN_CREATE; op <= RVN_FAILW; op++) {
         const char *word = words[op - 1];
         if (strlen(word) != length || strncmp(line, word, length) != 0)
             continue;

@@ -1,10 +1,10 @@
 /*
  * A hostile host: the table of kernel_cases, which is its argument, on images; then a million calls in all, with images of every length 0..1025,
- * random bytes, single spoilt bytes of good images, states that no command leads to, started and not, null where the length is 0, operands of
- * every width, seeds and profiles good and bad, at every entry point. Each answer and every byte afterwards are held to reading.h; the bytes stand
- * between guard bytes, at any alignment, and what else is lent between guards too. Whatever a call may not write is lent read-only: all of a
- * refused call's, and an image that is only asked or drawn for. The seed is fixed, so that a run that fails once fails again. Prints one line of
- * counts by code.
+ * random bytes, single spoilt bytes of good images, states that no command leads to, started and not, every bit of the pending exceptions, null
+ * where the length is 0, operands of every width, seeds and profiles good and bad, at every entry point. Each answer and every byte afterwards are
+ * held to reading.h; the bytes stand between guard bytes, at any alignment, and what else is lent between guards too. Whatever a call may not write
+ * is lent read-only: all of a refused call's, and an image that is only asked or drawn for. The seed is fixed, so that a run that fails once fails
+ * again. Prints one line of counts by code.
  */
 #include "watched.h"
 #include <inttypes.h>
@@ -20,7 +20,7 @@
 static struct watched pages, draw_pages;
 static uint8_t *area, expected[AREA]; /* area: the pages' bytes, to be written */
 static uint8_t good[512]; /* an image that is stepped all along */
-static unsigned long counts[19], drawn_ops[12], releases[12], spoilt, sound;
+static unsigned long counts[19], drawn_ops[12], releases[16], at_once[16], later, spoilt, sound;
 
 /* ---- bytes to lend */
 
@@ -66,21 +66,33 @@ static void judge_packed(const char *what, size_t length, uint64_t answer, uint6
 
 static void judge(const char *what, size_t length, uint32_t answer, struct reply want)
 {
-    judge_packed(what, length, answer, want.code + 256 * want.running + 65536 * want.released);
+    judge_packed(what, length, answer, want.code + 256 * want.running + 65536 * want.released + want.exception * (uint64_t)RVN_EXCEPTION);
+}
+
+/* What an answer shows: an exception that was pending before the command, or the command's own. */
+static void count_exception(uint64_t op, int was_pending)
+{
+    if (was_pending)
+        later++;
+    else
+        at_once[op]++;
 }
 
 /* ---- the entry points, each on bytes that are there already */
 
 static unsigned try_step(uint8_t *image, size_t length, uint64_t op, uint64_t a, uint64_t b, uint64_t value)
 {
-    struct machine m;
-    struct reply want = {1, 0, 0};
+    struct machine m, before;
+    struct reply want = {1, 0, 0, 0};
     if (read_image(&m, image, length)) {
+        before = m;
         want = step(&m, op, a, b, value);
         if (want.code == 0)
             write_image(&m, expected + (image - area));
         if (want.released)
             releases[op]++;
+        if (want.exception)
+            count_exception(op, before.tasks[want.running].failed);
     }
     watch("step", length);
     judge("step", length, rvn_step(at(image, want.code == 0), length, op, a, b, value), want);
@@ -90,7 +102,7 @@ static unsigned try_step(uint8_t *image, size_t length, uint64_t op, uint64_t a,
 static void try_fresh(uint8_t *image, size_t length)
 {
     struct machine m;
-    struct reply want = {length != 512, 0, 0};
+    struct reply want = {length != 512, 0, 0, 0};
     memset(&m, 0, sizeof m);
     m.ready_count = 1;
     if (length == 512)
@@ -102,7 +114,7 @@ static void try_fresh(uint8_t *image, size_t length)
 static void try_left(uint8_t *image, size_t length, uint64_t task)
 {
     struct machine m;
-    struct reply want = {1, 0, 0};
+    struct reply want = {1, 0, 0, 0};
     if (read_image(&m, image, length))
         want = wakes_left(&m, task);
     watch("wakes left", length);
@@ -119,7 +131,8 @@ static uint64_t carry_out(struct machine *m, struct draft d)
     }
     if (done.released)
         releases[d.op]++;
-    return done.running * UINT64_C(256) + done.released * UINT64_C(65536);
+    later += done.exception; /* no op above 11 is drawn: it was pending */
+    return done.running * UINT64_C(256) + done.released * UINT64_C(65536) + done.exception * (uint64_t)RVN_EXCEPTION;
 }
 
 /* A draw, or a draw with its step. The seed is in `lent` already, and so are the weights, unless none are lent. */
@@ -178,26 +191,38 @@ static uint64_t operand(uint64_t n)
 static uint64_t likely_op(const uint8_t *image)
 {
     static const uint8_t before[] = {1, 1, 1, 1, 1, 1, 1, 1, 2, 2, 2, 2, 2, 2, 2, 3};
-    static const uint8_t after[] = {4, 5, 5, 5, 6, 7, 7, 8, 9, 10, 10, 10, 11, 1, 2, 3};
-    return one_in(12) ? operand(13) : (image[8] ? after : before)[below(16)];
+    static const uint8_t after[] = {4, 5, 5, 5, 6, 7, 7, 8, 9, 10, 10, 10, 11, 1, 2, 3, 12, 13, 14, 15};
+    return one_in(12) ? operand(17) : image[8] ? after[below(sizeof after)] : before[below(sizeof before)];
+}
+
+/* An op that ends what the runner is inside of. */
+static uint64_t closing_op(int is_entry)
+{
+    static const uint8_t of_entry[] = {RVN_DONE, RVN_FAILE}, of_open[] = {RVN_CLOSEP, RVN_CLOSEF, RVN_FAILP, RVN_FAILF, RVN_FAILW};
+    return is_entry ? of_entry[below(sizeof of_entry)] : of_open[below(sizeof of_open)];
+}
+
+static int has_barrier(uint64_t op)
+{
+    return op == 8 || op == 10 || op == 11 || op == 12 || op == 14 || op == 15;
 }
 
 static void step_somehow(uint8_t *image, size_t length)
 {
-    uint64_t op = operand(13), a = 0, b = 0, value = 0, clock = 0;
+    uint64_t op = operand(17), a = 0, b = 0, value = 0, clock = 0;
     if (length == 512) {
         uint8_t runner = image[64] & 31, holds = image[128 + runner];
         op = likely_op(image);
         clock = number_at(image);
         if (image[8] && holds && one_in(2)) {
-            uint64_t closing = image[160 + runner] == 2 ? 11 : 8 + below(2), barrier = closing == 9 ? 0 : below(2);
+            uint64_t closing = closing_op(image[160 + runner] == 2), barrier = has_barrier(closing) ? below(2) : 0;
             try_step(image, length, closing, holds, barrier, 0);
             return;
         }
     }
-    if (op == 1 || op == 2 || ranged(op, 7, 11) || one_in(80))
+    if (op == 1 || op == 2 || ranged(op, 7, 15) || one_in(80))
         a = operand(op == 1 ? 32 : 8);
-    if (op == 1 || op == 2 || op == 8 || op == 10 || op == 11 || one_in(80))
+    if (op == 1 || op == 2 || has_barrier(op) || one_in(80))
         b = operand(op <= 2 ? 16 : 2);
     if (op == 4 || op == 6 || one_in(80))
         value = one_in(200) ? draw() : op == 4 ? clock + below(12) - (clock > 3 ? 3 : 0) : below(6);
@@ -252,7 +277,7 @@ static void call_somehow(uint8_t *image, size_t length)
 /* ---- states that no commands lead to */
 
 /* What a state may have that a run has after Start only: a sound one has all of it after Start, and none before. */
-enum { CLOCK = 1, DELAYS = 2, WAITERS = 4, HOLDERS = 8, ALL = 15 };
+enum { CLOCK = 1, DELAYS = 2, WAITERS = 4, HOLDERS = 8, EXCEPTIONS = 16, ALL = 31, KINDS = 5 };
 
 static void delay_until(struct machine *m, int t, uint64_t until)
 {
@@ -284,6 +309,7 @@ static void forge(uint8_t *image, int started, int has)
             continue;
         k->created = 1;
         k->base = 1 + (int)below(15);
+        k->failed = (has & EXCEPTIONS) && one_in(3);
         if ((has & DELAYS) && one_in(4)) {
             delay_until(&m, t, one_in(8) ? draw() : below(30));
         } else if ((has & WAITERS) && one_in(4) && m.ceiling[o] >= k->base && !m.waiter[o]) {
@@ -303,11 +329,83 @@ static void forge(uint8_t *image, int started, int has)
 /* Sound, started or not; or not started and with one thing that a state has after Start only. */
 static void forge_some(uint8_t *image)
 {
-    uint64_t which = below(8);
+    uint64_t which = below(4 + KINDS);
     if (which < 4)
         forge(image, 1, ALL);
     else
         forge(image, 0, one_in(2) ? 0 : 1 << (which - 4));
+}
+
+/* ---- pending exceptions, bytes 192..195, and the spare bytes behind them */
+
+static void put_pending(uint8_t *image, uint32_t bits)
+{
+    for (int i = 0; i < 4; i++)
+        image[192 + i] = (uint8_t)(bits >> 8 * i);
+}
+
+/* Each entry point on the image with these bits, and each op: with an operand that fits, so that some are accepted where the state is sound. */
+static void try_pending(const uint8_t *bytes, uint32_t bits)
+{
+    uint8_t image[512];
+    memcpy(image, bytes, 512);
+    put_pending(image, bits);
+    uint8_t holds = image[128 + (image[64] & 31)];
+    for (uint64_t op = 0; op <= 16; op++) {
+        uint64_t a = ranged(op, 3, 6) ? 0 : ranged(op, 7, 15) && holds ? holds : 1;
+        try_step(lend(image, 512), 512, op, a, op == 1 || op == 2 || has_barrier(op), 0);
+    }
+    try_left(lend(image, 512), 512, 1);
+    draw_somehow(lend(image, 512), 512, 0);
+    draw_somehow(lend(image, 512), 512, 1);
+    try_fresh(lend(image, 512), 512);
+}
+
+/* A machine of all 31 tasks, the first of which runs and holds object 1, on which the last waits; or it is not started. */
+static void all_tasks(uint8_t *image, int started, int way)
+{
+    struct machine m;
+    memset(&m, 0, sizeof m);
+    m.started = started;
+    m.ready_count = m.tasks[0].created = 1;
+    m.ceiling[1] = 15;
+    for (int t = 1; t < 32; t++) {
+        m.tasks[t].created = 1;
+        m.tasks[t].base = 1 + t / 8;
+        if (started && t == 31) {
+            m.waiter[1] = t;
+            m.tasks[t].place = WAITING;
+            continue;
+        }
+        if (started && t == 1) {
+            m.tasks[t].holds = 1;
+            m.tasks[t].way = way;
+        }
+        at_tail(&m, active(&m, t), t);
+    }
+    write_image(&m, image);
+}
+
+/* Every bit alone, all of them, all but idle's, all but one: of no task but idle, of all tasks, of some; before Start and after it. */
+static void try_all_pending(void)
+{
+    uint8_t images[6][512];
+    memset(images[0], 0, 512);
+    memset(images[1], 0, 512);
+    images[1][8] = 1;
+    all_tasks(images[2], 0, 0);
+    all_tasks(images[3], 1, 1);
+    all_tasks(images[4], 1, 2);
+    forge(images[5], 1, ALL);
+    for (int k = 0; k < 6; k++) {
+        for (int t = 0; t < 32; t++) {
+            try_pending(images[k], (uint32_t)1 << t);
+            try_pending(images[k], ~((uint32_t)1 << t));
+        }
+        try_pending(images[k], 0);
+        try_pending(images[k], 0xFFFFFFFFu);
+        try_pending(images[k], 0xFFFFFFFEu);
+    }
 }
 
 /* Null for each image and for the weights, which the header allows where the length is 0. */
@@ -334,6 +432,10 @@ static void set_cell(uint8_t *image, const char *table, uint64_t i, uint64_t val
         put_number(image, value);
     if (strcmp(table, "until") == 0)
         put_number(image + 256 + 8 * i, value);
+    if (strcmp(table, "pending") == 0) {
+        uint8_t *byte = &image[192 + i % 32 / 8], bit = (uint8_t)(1u << i % 8);
+        *byte = (uint8_t)(value % 2 ? *byte | bit : *byte & ~bit);
+    }
     for (size_t k = 0; k < sizeof tables / sizeof tables[0]; k++)
         if (strcmp(table, tables[k].name) == 0)
             image[(uint64_t)tables[k].at + i] = (uint8_t)value;
@@ -404,7 +506,8 @@ static void do_table(const char *name)
     fclose(table);
 }
 
-/* 1 if every code of these functions was answered, every kind drawn, and a task released by each op that can; else it says which was not. */
+/* 1 if every code of these functions was answered, every kind drawn, a task released by each op that can, and an exception shown by each closing that
+ * sets one and by another op; else it says which was not. */
 static int all_met(void)
 {
     int met = 1;
@@ -418,9 +521,14 @@ static int all_met(void)
             printf("op %u was never drawn\n", op);
             met = 0;
         }
-    for (unsigned op = 0; op < 12; op++)
-        if ((op == RVN_WAKE || op == RVN_CLOSEP || op == RVN_DONE) && releases[op] == 0) {
+    for (unsigned op = 0; op < 16; op++)
+        if ((op == RVN_WAKE || (has_barrier(op) && op != RVN_ENTRY)) && releases[op] == 0) {
             printf("op %u released nobody\n", op);
+            met = 0;
+        }
+    for (unsigned op = RVN_FAILP; op <= RVN_FAILW; op++)
+        if (at_once[op] == 0 || later == 0) {
+            printf("op %u showed no exception at once, or none was shown later\n", op);
             met = 0;
         }
     if (spoilt == 0 || sound == 0) {
@@ -440,6 +548,7 @@ int main(int argc, char **argv)
     only_read = (struct lent *)draw_pages.lent;
     call_with_null();
     do_table(argc == 2 ? argv[1] : NULL);
+    try_all_pending();
     /* every length, with random bytes and with a good image that is cut or continued */
     for (size_t length = 0; length <= LONGEST; length++) {
         memset(bytes, 0, sizeof bytes);
@@ -502,6 +611,8 @@ int main(int argc, char **argv)
     for (unsigned code = 0; code < 19; code++)
         if (code < 14 || code > 16)
             printf(" %u:%lu", code, counts[code]);
-    printf("; states of the table: %lu sound, %lu spoilt\n", sound, spoilt);
+    printf("; states of the table: %lu sound, %lu spoilt", sound, spoilt);
+    printf("; exceptions shown: %lu by the command that set them, %lu later\n",
+           at_once[RVN_FAILP] + at_once[RVN_FAILF] + at_once[RVN_FAILE] + at_once[RVN_FAILW], later);
     return !all_met();
 }

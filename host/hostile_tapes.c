@@ -25,7 +25,7 @@ static struct watched pages, number_pages;
 static uint8_t *area, expected[AREA];
 static uint8_t tape[LONGEST];
 static uint64_t *lent, left[1 + MOST_NUMBERS + 1];
-static unsigned long answers[256], agreed_codes[19], agreed_releases[12];
+static unsigned long answers[256], agreed_codes[19], agreed_releases[16];
 
 /* ---- a second reading of a tape */
 
@@ -42,7 +42,7 @@ static uint32_t fault(const uint8_t *r, int is_first)
         int form = r[0] == 0x52 && r[1] == 0x56 && r[2] == 0 && ranged(r[3], 1, 2) && memcmp(r + 4, none, 4) == 0;
         return !form ? 15 : ranged(number_at(r + 8), 1, 4294967295u) ? 0 : 17;
     }
-    return r[0] == 0x52 && r[1] == 0x56 && ranged(r[2], 1, 11) && r[5] <= 13 && r[6] <= 31 && r[7] <= 31 ? 0 : 15;
+    return r[0] == 0x52 && r[1] == 0x56 && ranged(r[2], 1, 15) && r[5] <= 13 && r[6] <= 31 && r[7] <= 31 ? 0 : 15;
 }
 
 static uint64_t packed(unsigned code, unsigned running, unsigned released)
@@ -136,23 +136,32 @@ static void put_header(uint8_t *r)
     put_number(r + 8, 1 + below(4294967295u));
 }
 
+/* A closing command, or, in some cases, the one of 12..15 that moves tasks as it does: none is drawn. Another op is itself. */
+static uint8_t or_failing(uint64_t op)
+{
+    uint64_t which = below(4);
+    if (which == 0)
+        return (uint8_t)op;
+    return (uint8_t)(op == RVN_CLOSEP ? (which == 1 ? RVN_FAILW : RVN_FAILP) : op == RVN_CLOSEF ? RVN_FAILF : op == RVN_DONE ? RVN_FAILE : op);
+}
+
 /* A command that gets the machine of an image somewhere, drawn by the library after start; or any. */
 static void put_command(const uint8_t *image, uint8_t *r)
 {
     static const uint32_t weights[RVN_WEIGHTS] = {10, 15, 10, 10, 10, 10, 15, 10};
     uint32_t from = 1 + (uint32_t)below(4294967295u), drawn;
-    uint64_t value = 0, op = image[8] ? 4 + below(8) : one_in(10) ? 3 : 1 + below(2);
+    uint64_t value = 0, op = image[8] ? 4 + below(12) : one_in(10) ? 3 : 1 + below(2);
     r[0] = 0x52;
     r[1] = 0x56;
     if (image[8] && !one_in(4)) {
         drawn = rvn_draw(image, RVN_IMAGE_BYTES, &from, 20, weights, RVN_WEIGHTS, &value);
-        r[2] = (uint8_t)RVN_OP(drawn);
+        r[2] = or_failing(RVN_OP(drawn));
         r[3] = (uint8_t)RVN_A(drawn);
         r[4] = (uint8_t)RVN_B(drawn);
     } else {
-        r[2] = (uint8_t)(one_in(12) ? 1 + below(11) : op);
+        r[2] = (uint8_t)(one_in(12) ? 1 + below(15) : op);
         r[3] = (uint8_t)(one_in(20) ? draw() : r[2] == 1 ? 1 + below(31) : r[2] == 2 || r[2] >= 7 ? 1 + below(7) : 0);
-        r[4] = (uint8_t)(one_in(20) ? draw() : r[2] <= 2 ? 1 + below(15) : r[2] == 8 || r[2] >= 10 ? below(2) : 0);
+        r[4] = (uint8_t)(one_in(20) ? draw() : r[2] <= 2 ? 1 + below(15) : r[2] == 8 || (r[2] >= 10 && r[2] != 13) ? below(2) : 0);
         value = one_in(20) ? draw() : r[2] == 4 || r[2] == 6 ? below(40) : 0;
     }
     put_number(r + 8, value);
@@ -223,8 +232,8 @@ static int all_met(void)
             printf("no record with code %u agreed\n", code);
             met = 0;
         }
-    for (unsigned op = 0; op < 12; op++)
-        if ((op == RVN_WAKE || op == RVN_CLOSEP || op == RVN_DONE) && agreed_releases[op] == 0) {
+    for (unsigned op = 0; op < 16; op++)
+        if ((op == RVN_WAKE || op == RVN_CLOSEP || op == RVN_DONE || op == RVN_FAILP || op == RVN_FAILE || op == RVN_FAILW) && agreed_releases[op] == 0) {
             printf("no record of op %u that releases a task agreed\n", op);
             met = 0;
         }

@@ -34,7 +34,8 @@ static uint8_t *all_of(FILE *file, size_t *length)
 /* The command of a record: its line, and then all of its operands, used by its op or not. */
 static void print_command(const uint8_t *record)
 {
-    static const char *const words[12] = {"", "create", "object", "start", "delay", "wake", "advance", "open", "closep", "closef", "entry", "done"};
+    static const char *const words[16] = {"",       "create", "object", "start", "delay", "wake",  "advance", "open",
+                                          "closep", "closef", "entry",  "done",  "failp", "failf", "faile",   "failw"};
     unsigned op = record[2], a = record[3], b = record[4];
     uint64_t value = 0;
     for (int i = 15; i >= 8; i--)
@@ -44,14 +45,14 @@ static void print_command(const uint8_t *record)
         printf(" %" PRIu64, value);
     else if (op != 3 && op != 5)
         printf(" %u", a);
-    if (op == 1 || op == 2 || op == 8 || op >= 10)
+    if (op == 1 || op == 2 || op == 8 || (op >= 10 && op != 13))
         printf(" %u", b);
     printf(" (op %u, a %u, b %u, value %" PRIu64 ")", op, a, b, value);
 }
 
 static void print_answer(const char *whose, uint64_t answer)
 {
-    printf("; %s: code %" PRIu64 ", running %" PRIu64 ", released %" PRIu64, whose, answer & 255, answer >> 8 & 255, answer >> 16);
+    printf("; %s: code %" PRIu64 ", running %" PRIu64 ", released %" PRIu64, whose, answer & 255, answer >> 8 & 255, answer >> 16 & 255);
 }
 
 static void print_verdict(const uint8_t *tape, uint32_t answer, const uint64_t *verdict)

@@ -1,7 +1,7 @@
 /*
- * A second reading of the image and of document 01's step and draw with request 2, written from the papers and docs/IMAGE.md alone, for hostile.c and hostile_tapes.c to
- * hold the libraries to. It shares no code, no table and no representation with them: a machine here is tasks that say where they stand, and two
- * lines. What only one of the two uses is inline, so that the other compiles without a warning.
+ * A second reading of the image and of document 01's step and draw with requests 2 and 6, written from the papers and docs/IMAGE.md alone, for
+ * hostile.c and hostile_tapes.c to hold the libraries to. It shares no code, no table and no representation with them: a machine here is tasks that
+ * say where they stand, and two lines. What only one of the two uses is inline, so that the other compiles without a warning.
  */
 #ifndef READING_H
 #define READING_H
@@ -12,7 +12,7 @@
 enum place { NOWHERE, READY, DELAYED, WAITING };
 
 struct task {
-    int created, base, holds, way;
+    int created, base, holds, way, failed; /* failed: an exception that no answer has shown */
     enum place place;
     uint64_t until;
 };
@@ -27,7 +27,7 @@ struct machine {
 };
 
 struct reply {
-    unsigned code, running, released;
+    unsigned code, running, released, exception;
 };
 
 static int active(const struct machine *m, int t)
@@ -84,7 +84,7 @@ static inline int read_image(struct machine *m, const uint8_t *s, size_t length)
     for (int i = 9; i < 16; i++)
         if (s[i])
             return 0;
-    for (int i = 192; i < 256; i++)
+    for (int i = 196; i < 256; i++)
         if (s[i])
             return 0;
     m->clock = number_at(s);
@@ -101,11 +101,12 @@ static inline int read_image(struct machine *m, const uint8_t *s, size_t length)
         k->holds = s[128 + t];
         k->way = s[160 + t];
         k->until = number_at(s + 256 + 8 * t);
+        k->failed = s[192 + t / 8] >> t % 8 & 1;
         k->created = t == 0 || k->base != 0;
         if (k->base > 15 || k->holds > 7 || k->way > 2 || (k->holds == 0) != (k->way == 0))
             return 0;
     }
-    if (m->tasks[0].base || m->tasks[0].holds)
+    if (m->tasks[0].base || m->tasks[0].holds || m->tasks[0].failed)
         return 0;
     if (!read_line(m, s + 64, READY, m->ready, &m->ready_count) || !read_line(m, s + 96, DELAYED, m->delayed, &m->delayed_count))
         return 0;
@@ -125,6 +126,8 @@ static inline int read_image(struct machine *m, const uint8_t *s, size_t length)
         if (k->created != (k->place != NOWHERE) || (k->until && k->place != DELAYED))
             return 0;
         if (k->holds && (k->place != READY || !m->ceiling[k->holds] || k->base > m->ceiling[k->holds] || holder[k->holds]++))
+            return 0;
+        if (k->failed && !(k->created && m->started))
             return 0;
         if (!m->started && (m->clock || k->holds || k->place == DELAYED || k->place == WAITING))
             return 0;
@@ -151,6 +154,7 @@ static inline void write_image(const struct machine *m, uint8_t *s)
         s[32 + t] = (uint8_t)m->tasks[t].base;
         s[128 + t] = (uint8_t)m->tasks[t].holds;
         s[160 + t] = (uint8_t)m->tasks[t].way;
+        s[192 + t / 8] |= (uint8_t)(m->tasks[t].failed << t % 8);
         put_number(s + 256 + 8 * t, m->tasks[t].until);
     }
     for (int i = 0; i < m->ready_count; i++)
@@ -199,8 +203,8 @@ static int in_range(uint64_t op, uint64_t a, uint64_t b, uint64_t value)
     case 2: return ranged(a, 1, 7) && ranged(b, 1, 15) && value == 0;
     case 3: case 5: return a == 0 && b == 0 && value == 0;
     case 4: case 6: return a == 0 && b == 0;
-    case 7: case 9: return ranged(a, 1, 7) && b == 0 && value == 0;
-    case 8: case 10: case 11: return ranged(a, 1, 7) && b <= 1 && value == 0;
+    case 7: case 9: case 13: return ranged(a, 1, 7) && b == 0 && value == 0;
+    case 8: case 10: case 11: case 12: case 14: case 15: return ranged(a, 1, 7) && b <= 1 && value == 0;
     default: return 0;
     }
 }
@@ -208,7 +212,7 @@ static int in_range(uint64_t op, uint64_t a, uint64_t b, uint64_t value)
 static unsigned refusal(const struct machine *m, uint64_t op, uint64_t a, uint64_t b, uint64_t value)
 {
     const struct task *r = &m->tasks[m->ready[0]];
-    int uses = ranged(op, 7, 11), takes = op == 7 || op == 10;
+    int uses = ranged(op, 7, 15), takes = op == 7 || op == 10, ends_entry = op == 11 || op == 14;
     if (!in_range(op, a, b, value))
         return 4;
     if (op >= 4 && !m->started)
@@ -223,7 +227,7 @@ static unsigned refusal(const struct machine *m, uint64_t op, uint64_t a, uint64
         return 7;
     if ((op == 4 || takes) && r->holds)
         return 8;
-    if ((op == 8 || op == 9 || op == 11) && (r->holds != (int)a || r->way != (op == 11 ? 2 : 1)))
+    if (uses && !takes && (r->holds != (int)a || r->way != (ends_entry ? 2 : 1)))
         return 9;
     if (takes && r->base > m->ceiling[a])
         return 10;
@@ -279,10 +283,21 @@ static void delay(struct machine *m, uint64_t time)
     m->tasks[t].place = DELAYED;
 }
 
+/* An accepted op sets its exception, and then its answer shows the one of the task that it names. */
+static void settle(struct machine *m, uint64_t op, int closer, struct reply *r)
+{
+    if (ranged(op, 12, 14))
+        m->tasks[closer].failed = 1;
+    if (op == 15 && r->released)
+        m->tasks[r->released].failed = 1;
+    r->exception = (unsigned)m->tasks[running(m)].failed;
+    m->tasks[running(m)].failed = 0;
+}
+
 /* The answer to a command of a sound machine, which it steps if the command is accepted. */
 static struct reply step(struct machine *m, uint64_t op, uint64_t a, uint64_t b, uint64_t value)
 {
-    struct reply r = {refusal(m, op, a, b, value), 0, 0};
+    struct reply r = {refusal(m, op, a, b, value), 0, 0, 0};
     int runner = m->ready[0];
     if (r.code == 0)
         switch (op) {
@@ -296,8 +311,8 @@ static struct reply step(struct machine *m, uint64_t op, uint64_t a, uint64_t b,
         case 4: delay(m, value); break;
         case 5: r.released = (unsigned)wake(m); break;
         case 6: m->clock += value; break;
-        case 8: case 11: r.released = b ? (unsigned)serve(m, a) : 0; close_object(m); break;
-        case 9: close_object(m); break;
+        case 8: case 11: case 12: case 14: case 15: r.released = b ? (unsigned)serve(m, a) : 0; close_object(m); break;
+        case 9: case 13: close_object(m); break;
         default:
             if (op == 10 && b == 0) {
                 take_first(m->ready, &m->ready_count);
@@ -308,6 +323,8 @@ static struct reply step(struct machine *m, uint64_t op, uint64_t a, uint64_t b,
                 m->tasks[runner].way = op == 7 ? 1 : 2;
             }
         }
+    if (r.code == 0)
+        settle(m, op, runner, &r);
     r.running = (unsigned)running(m);
     return r;
 }
@@ -315,7 +332,7 @@ static struct reply step(struct machine *m, uint64_t op, uint64_t a, uint64_t b,
 /* "Wakes left": the code, and the count in `running`. */
 static inline struct reply wakes_left(const struct machine *m, uint64_t task)
 {
-    struct reply r = {0, 0, 0};
+    struct reply r = {0, 0, 0, 0};
     if (!ranged(task, 1, 31))
         r.code = 4;
     else if (!m->tasks[task].created)

@@ -1,6 +1,7 @@
 #!/bin/sh
 # Builds the two static libraries, holds what each exports to its header, compiles the example hosts and the hostile hosts for x86-64, and runs
-# them: walk and draw against what the programs of these names print, even against what generator_run_evenly prints, judge_tape against what program
+# them: walk and draw against what the programs of these names print, even against what generator_run_evenly prints, exceptions against what
+# second/bin/exceptions2 prints of the same lines (host/exceptions.stdout, which second/test holds to it), judge_tape against what program
 # judge prints of its stored tapes, the hostile hosts against their stored lines, and stack against the bounds that docs/IMAGE.md and docs/JUDGE-C.md
 # state. A line that a hostile host prints is stored in host/NAME.stdout, as it was printed in target/host/NAME.stdout, after somebody has seen why it
 # changed. Wants the toolchain, and of Debian gcc, libc6-dev and binutils on x86-64; on Arm gcc-x86-64-linux-gnu and libc6-dev-amd64-cross, and the
@@ -58,6 +59,7 @@ host() {
 host walk "$libs/libimage.a"
 host draw "$libs/libimage.a"
 host even "$libs/libimage.a"
+host exceptions "$libs/libimage.a"
 host hostile "$libs/libimage.a"
 host judge_tape "$libs/libjudge_c.a"
 host hostile_tapes "$libs/libimage.a" "$libs/libjudge_c.a"
@@ -79,6 +81,8 @@ rows=$root/second/cases/even.txt
 sed -n '/^<below /d; s/^<//p' "$rows" | $run "$out/even" lines >"$out/even.rows" || fail "host/even.c cannot read the rows of second/cases/even.txt"
 awk '/^</ { choice = /^<below / } /^>/ && !choice { print substr($0, 2) }' "$rows" | diff - "$out/even.rows" >&2 ||
     fail "host/even.c draws otherwise (>) than second/cases/even.txt says (<)"
+runs exceptions <"$here/exceptions.in"
+diff "$here/exceptions.stdout" "$out/exceptions.stdout" >&2 || fail "host/exceptions.c prints other lines (>) than second/bin/exceptions2 (<) of host/exceptions.in"
 # The two that take longest, beside each other.
 runs hostile_tapes &
 tapes=$!
@@ -105,6 +109,6 @@ if echo 'int main(){}' | $cc -x c++ -fsyntax-only - 2>/dev/null; then
 else
     echo "host/run.sh: the headers were not tried as C++: $cc compiles none. On Debian: apt-get install $plus" >&2
 fi
-echo "host: walk, draw and even on an image print what the programs print; $(cat "$out/hostile.stdout"); exported: $(tr '\n' ' ' <"$out/image.exported")"
+echo "host: walk, draw, even and exceptions on an image print what the programs print; $(cat "$out/hostile.stdout"); exported: $(tr '\n' ' ' <"$out/image.exported")"
 echo "host: judge_tape prints what program judge prints; $(cat "$out/hostile_tapes.stdout"); exported: $(tr '\n' ' ' <"$out/judge_c.exported")"
 echo "host: $(cat "$out/stack.stdout")"

@@ -42,17 +42,22 @@ extern "C" {
 #define RVN_CLOSEF 9   /* a = object: ends an open, as 8 with barrier 0 does */
 #define RVN_ENTRY 10   /* a = object, b = barrier: 1, the runner holds it, for an entry; 0, the runner waits on it */
 #define RVN_DONE 11    /* a = object, b = barrier 0 or 1: ends an entry; with 1 a waiting task is released */
+/* Bodies that end in an exception. Each moves tasks, and is refused, as the command that it is named with; see RVN_EXCEPTION. */
+#define RVN_FAILP 12   /* as 8: a procedure ends by an exception, which is the runner's */
+#define RVN_FAILF 13   /* as 9: a function ends by an exception, which is the runner's */
+#define RVN_FAILE 14   /* as 11: an entry ends by an exception, which is the runner's */
+#define RVN_FAILW 15   /* as 8: the waiting task's entry body failed meanwhile; the exception is the released task's, nobody's if none is released */
 
 /* Codes: 0, or the number of the refusal. Of several that hold, the answer is the first in the order 1, 4, 2 or 3, then 5 to 13; of a
  * draw in the order 1, 17, 18, 2. */
 #define RVN_ACCEPTED 0 /* no refusal: the call did what it is for */
 #define RVN_SHAPE 1    /* the image is not 512 bytes, or holds no sound state: running and released are 0 */
-#define RVN_EARLY 2    /* ops 4..11 or a draw before start */
+#define RVN_EARLY 2    /* ops 4..15 or a draw before start */
 #define RVN_LATE 3     /* ops 1..3 after start */
 #define RVN_RANGE 4    /* an unknown op, an operand out of its range, an unused operand that is not 0 */
 #define RVN_TAKEN 5    /* the task or object is set up already */
 #define RVN_MISSING 6  /* the object, or the task asked about, is not set up */
-#define RVN_IS_IDLE 7  /* ops 4 and 7..11 while task 0 runs */
+#define RVN_IS_IDLE 7  /* ops 4 and 7..15 while task 0 runs */
 #define RVN_INSIDE 8   /* ops 4, 7, 10 while the runner holds an object */
 #define RVN_OUTSIDE 9  /* closing an object that the runner does not hold, or holds in the other way */
 #define RVN_CEILING 10 /* the runner's base is above the ceiling */
@@ -64,12 +69,13 @@ extern "C" {
 #define RVN_PROFILE 18 /* of a draw: not eight weights, a weight above 100, wake's weight 0, or a span not 1..1000000 */
 
 /*
- * Steps the machine of an image. The answer is code + 256 * running + 65536 * released: RVN_CODE, RVN_RUNNING and RVN_RELEASED take it
- * apart. op, a and b are as wide as C's numbers go, so that nothing is cut on the way: 260 is refused with 4, and so is -1.
+ * Steps the machine of an image. The answer is code + 256 * running + 65536 * released, and 16777216 more if it shows an exception: RVN_CODE,
+ * RVN_RUNNING and RVN_RELEASED take it apart, and RVN_EXCEPTION is the bit of the exception. op, a and b are as wide as C's numbers go, so that
+ * nothing is cut on the way: 260 is refused with 4, and so is -1.
  *
  *   image    an accepted command leaves the image of the machine after the step; any other leaves every byte as it was
  *   length   of the image in bytes: 512, any other is refused with 1
- *   op       1..11, see above
+ *   op       1..15, see above
  *   a, b     the op's operands: a task, object, priority, ceiling or barrier; 0 where it has none
  *   value    the time of a delay, the ticks of an advance, else 0
  */
@@ -128,8 +134,9 @@ uint64_t rvn_draw_even(const uint8_t *image, size_t length, uint32_t *seed, uint
 /*
  * Draws a command for the machine of an image and carries it out: what rvn_draw, and then rvn_step of what it drew, do in two calls, with one test of
  * the state. The answer is that of rvn_draw + 4294967296 * that of rvn_step: RVN_DRAWN and RVN_STEPPED take it apart, and the parts of those are read
- * as theirs are. A drawn command is accepted, so the step's code is 0 always. A refusal, 1, 17, 18 or 2, answers its code alone, so that running
- * and released are 0 in it, and leaves the image, *seed and *value.
+ * as theirs are. A drawn command is accepted, so the step's code is 0 always. A refusal, 1, 17, 18 or 2, answers its code alone, so that running,
+ * released and the exception are 0 in it, and leaves the image, *seed and *value. (No op above 11 is drawn; an exception that a host's own step left
+ * pending may be shown by a drawn one.)
  *
  *   image    of a machine: afterwards of the machine after the step; a refusal leaves every byte as it was
  *   length, seed, span, weights, count, value    as those of rvn_draw
@@ -147,6 +154,10 @@ uint64_t rvn_draw_step(uint8_t *image, size_t length, uint32_t *seed, uint64_t s
 #define RVN_CODE(answer) ((answer) & 255u)
 #define RVN_RUNNING(answer) (((answer) >> 8) & 255u)   /* the running task after the step, 0 before start */
 #define RVN_RELEASED(answer) (((answer) >> 16) & 255u) /* the released task, 0 for nobody */
+/* Set in an answer of rvn_step that shows an exception of the running task: answer & RVN_EXCEPTION. An exception that an op of 12..15 sets for a task
+ * is shown once, by the first accepted answer that names the task as running, the op's own included; until then the image keeps it. A refusal never
+ * has it. (Of rvn_draw the same bit is one of b's; of rvn_draw_step it stands in RVN_STEPPED(answer).) */
+#define RVN_EXCEPTION 16777216u
 #define RVN_COUNT(answer) (((answer) >> 8) & 255u)     /* of rvn_wakes_left */
 #define RVN_OP(answer) (((answer) >> 8) & 255u)        /* of rvn_draw: the op, 0 where it is refused */
 #define RVN_A(answer) (((answer) >> 16) & 255u)        /* of rvn_draw: the first operand */

@@ -92,6 +92,15 @@ static void set_up(void)
     step_with(RVN_START, 0, 0, 0);
 }
 
+/* A closing command, or, in half of the cases, one that ends in an exception and moves tasks alike: none is drawn. */
+static uint64_t or_failing(uint64_t closing)
+{
+    static const uint8_t failing[] = {RVN_FAILP, RVN_FAILF, 0, RVN_FAILE};
+    if (one_in(2) || (closing != RVN_CLOSEP && closing != RVN_CLOSEF && closing != RVN_DONE))
+        return closing;
+    return closing == RVN_CLOSEP && one_in(2) ? RVN_FAILW : failing[closing - RVN_CLOSEP];
+}
+
 /* From one image and one seed: by even choices, with its step in one call, and in two. */
 static void draw_and_step(void)
 {
@@ -110,9 +119,9 @@ static void draw_and_step(void)
     from = first;
     measure(DRAW);
     if (RVN_CODE(answer) == RVN_ACCEPTED)
-        step_with(RVN_OP(answer), RVN_A(answer), RVN_B(answer), value);
+        step_with(or_failing(RVN_OP(answer)), RVN_A(answer), RVN_B(answer), value);
     else
-        step_with(below(13), below(33), below(17), one_in(2) ? 0 : draw());
+        step_with(below(17), below(33), below(17), one_in(2) ? 0 : draw());
 }
 
 /* The calls on a spoilt image, or one of another length, which is then as it was. */
@@ -153,9 +162,9 @@ static void judge_a_run(void)
     length = RVN_IMAGE_BYTES;
     measure(FRESH);
     for (size_t n = 1; n <= RECORDS; n++) {
-        uint64_t which = n <= 20 ? 1 + n % 2 : n == 21 ? 3 : 4 + below(8);
+        uint64_t which = n <= 20 ? 1 + n % 2 : n == 21 ? 3 : 4 + below(12);
         uint64_t first = which <= 2 ? 1 + below(which == 1 ? 31 : 7) : which >= 7 ? 1 + below(7) : 0;
-        uint64_t second = which <= 2 ? 1 + below(15) : which == 8 || which >= 10 ? below(2) : 0;
+        uint64_t second = which <= 2 ? 1 + below(15) : which == 8 || (which >= 10 && which != RVN_FAILF) ? below(2) : 0;
         step_with(which, first, second, which == 4 || which == 6 ? below(100) : 0);
         record(n);
     }

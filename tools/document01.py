@@ -1,9 +1,12 @@
-"""One reading of document 01, with requests 2 and 4 of document 02, in Python: the machine, its step, and a draw by either edition. It is written from the papers alone, with lists and
+"""One reading of document 01, with requests 2, 4 and 6 of document 02, in Python: the machine, its step, and a draw by either edition. It is written from the papers alone, with lists and
 sorting, and shares nothing with the sources under crates/. What kernel_cases, generator_cases, generator_run and generator_run_evenly are to print is computed by it.
 """
 
 LAST = 2**64 - 1
 BITS = 2**32 - 1
+
+# Request 6: a closing by an exception moves tasks as this one does, and its refusals are those of this one.
+CLOSING = {12: 8, 13: 9, 14: 11, 15: 8}
 
 
 class Machine:
@@ -11,11 +14,14 @@ class Machine:
         self.base, self.held, self.way, self.until = ([0] * 32 for _ in range(4))
         self.ready, self.delayed = [0] * 32, [0] * 32  # a line's tasks, then 0: idle, who is behind all, is not written
         self.ceiling, self.waiter = [0] * 8, [0] * 8
+        self.pending = [0] * 32  # 1: an exception that no answer has shown yet
         self.clock = self.started = 0
 
     def put(self, table, at, value):
         if table in ('clock', 'started'):
             setattr(self, table, value)
+        elif table == 'pending':
+            self.pending[at % 32] = value % 2
         else:
             getattr(self, table)[at] = value
 
@@ -54,6 +60,8 @@ class Machine:
             'early-hold': self.started or not holders,
             'null-object': self.ceiling[0] == 0,
             'time': all(self.until[t] == 0 for t in range(32) if t not in sleepers),
+            'pending': all(t in created for t in range(32) if self.pending[t]),
+            'early-pending': self.started or not any(self.pending),
             'free': all(cells[: len(tasks)] == tasks for cells, tasks in ((self.ready, line), (self.delayed, sleepers))),
         }
         return {name for name, held in holds.items() if not held}
@@ -67,6 +75,7 @@ class Machine:
         return self.ready[0] if self.started else 0
 
     def refusal(self, op, a, b, value):
+        op = CLOSING.get(op, op)
         task, obj, level, bit = 1 <= a <= 31, 1 <= a <= 7, 1 <= b <= 15, b <= 1
         in_range = {
             1: task and level and value == 0, 2: obj and level and value == 0, 3: a == b == value == 0, 4: a == b == 0, 5: a == b == value == 0, 6: a == b == 0,
@@ -141,6 +150,7 @@ class Machine:
 
     def accepted(self, op, a, b, value):
         """Carries the command out; the released task."""
+        op = CLOSING.get(op, op)
         if op == 1:
             self.base[a] = b
             self.tail(a)
@@ -162,12 +172,24 @@ class Machine:
             self.waiter[a] = self.take(self.ready)
         return 0
 
-    def step(self, *command):
+    def raised(self, op, closer, released):
+        """Whose exception the command sets: 0 for nobody's. One that is set already stays."""
+        return closer if op in (12, 13, 14) else released if op == 15 else 0
+
+    def step(self, op, *operands):
+        """Code, running, released, and 1 if the answer shows the running task's exception."""
         if self.faults():
-            return 1, 0, 0
-        code = self.refusal(*command)
-        released = 0 if code else self.accepted(*command)
-        return code, self.running(), released
+            return 1, 0, 0, 0
+        code, closer = self.refusal(op, *operands), self.running()
+        if code:
+            return code, closer, 0, 0
+        released = self.accepted(op, *operands)
+        failed = self.raised(op, closer, released)
+        if failed:
+            self.pending[failed] = 1
+        running = self.running()
+        shown, self.pending[running] = self.pending[running], 0
+        return 0, running, released, shown
 
     def left(self, task):
         if self.faults():

@@ -44,7 +44,8 @@ def whole_tapes():
         yield header(seed), agrees(0, seed)
     # operands that the op has no place for: 4 before Start and after, and the state goes on
     unused = [(1, 4, 4, 9), (2, 2, 4, 2**56), (3, 0, 0, 1), (3, 1, 0, 0), (4, 1, 0, 9), (4, 0, 1, 9), (5, 0, 0, 2**32), (5, 255, 0, 0), (5, 0, 255, 0), (6, 1, 0, 0),
-              (6, 0, 1, 0), (7, 1, 1, 0), (7, 1, 0, 1), (8, 1, 1, 1), (9, 1, 1, 0), (9, 1, 0, 1), (10, 1, 0, 1), (11, 1, 1, 1), (11, 1, 0, 1)]
+              (6, 0, 1, 0), (7, 1, 1, 0), (7, 1, 0, 1), (8, 1, 1, 1), (9, 1, 1, 0), (9, 1, 0, 1), (10, 1, 0, 1), (11, 1, 1, 1), (11, 1, 0, 1), (12, 1, 1, 1), (13, 1, 1, 0),
+              (13, 1, 0, 1), (14, 1, 1, 1), (15, 1, 0, 2**63)]
     tape = HEADER + b''.join(record(*command, 4, 0, 0) for command in unused) + walk(1, 5) + b''.join(record(*command, 4, 2, 0) for command in unused) + walk(6, 16)
     yield tape, agrees(16 + 2 * len(unused))
 
@@ -76,7 +77,7 @@ def bad_headers():
 def bad_records():
     yield DOCUMENT[:48] + HEADER + DOCUMENT[48:], refused(15, 3)                 # a second header
     yield HEADER + header(0), refused(15, 1)
-    for number, place, byte in ((1, 0, 0x53), (5, 1, 0), (16, 2, 0), (6, 2, 12), (7, 2, 255), (8, 5, 14), (9, 5, 255), (10, 6, 32), (11, 7, 32)):
+    for number, place, byte in ((1, 0, 0x53), (5, 1, 0), (16, 2, 0), (6, 2, 16), (7, 2, 255), (8, 5, 14), (9, 5, 255), (10, 6, 32), (11, 7, 32)):
         yield changed(DOCUMENT, (16 * number + place, byte)), refused(15, number)
 
 
@@ -107,9 +108,27 @@ def ends_of_entries():
         yield entered + record(11, 1, barrier, 0, *tape), differs(15, f'done 1 {barrier} (op 11, a 1, b {barrier}, value 0)', tape, rules)
 
 
+def exceptions():
+    """The same waiter. Ops 12 to 15 move tasks as closep, closef, done and closep do; a record carries no exception, so none is judged."""
+    closings = ((12, 1, 0, 0, 0, 3, 0), (13, 1, 0, 0, 0, 3, 0), (15, 1, 0, 0, 0, 3, 0), (15, 1, 1, 0, 0, 3, 1))
+    opened = record(7, 1, 0, 0, 0, 3, 0)
+    yield HEADER + b''.join(record(op, 1, 0, 0, 2, 0, 0) for op in range(8, 16)), agrees(8)
+    yield HEADER + walk(1, 13) + b''.join(opened + record(*fields) for fields in closings) + record(4, 0, 0, 20, 0, 1, 0), agrees(13 + 2 * len(closings) + 1)
+    entered = HEADER + walk(1, 13) + record(10, 1, 1, 0, 0, 3, 0)
+    refusals = ((12, 1, 1, 0, 9, 3, 0), (13, 1, 0, 0, 9, 3, 0), (15, 1, 1, 0, 9, 3, 0), (14, 1, 2, 0, 4, 3, 0), (14, 2, 1, 0, 6, 3, 0))
+    yield entered + b''.join(map(lambda fields: record(*fields), refusals)) + record(14, 1, 1, 0, 0, 3, 1), agrees(14 + len(refusals) + 1)
+    for op, word, tape in ((12, 'failp 1 1', (0, 1, 1)), (13, 'failf 1', (0, 3, 1)), (15, 'failw 1 1', (0, 3, 0))):
+        b = 0 if op == 13 else 1
+        rules = (0, 3, b)
+        yield HEADER + walk(1, 13) + opened + record(op, 1, b, 0, *tape), differs(15, f'{word} (op {op}, a 1, b {b}, value 0)', tape, rules)
+    yield entered + record(14, 1, 1, 0, 0, 3, 0), differs(15, 'faile 1 1 (op 14, a 1, b 1, value 0)', (0, 3, 0), (0, 3, 1))
+    # 14 ends no open
+    yield HEADER + walk(1, 13) + opened + record(14, 1, 1, 0, 0, 3, 1), differs(15, 'faile 1 1 (op 14, a 1, b 1, value 0)', (0, 3, 1), (9, 3, 0))
+
+
 def first_comes_first():
     wrong, said = record(3, 0, 0, 0, 0, 1, 0), differs(5, 'start (op 3, a 0, b 0, value 0)', (0, 1, 0), (0, 2, 0))
-    bad = changed(WALK[5], (2, 12))
+    bad = changed(WALK[5], (2, 16))
     yield HEADER + walk(1, 4) + wrong + bad, said
     yield HEADER + walk(1, 4) + wrong + WALK[5][:7], said
     yield HEADER + walk(1, 4) + bad + wrong, refused(15, 5)
@@ -118,7 +137,7 @@ def first_comes_first():
 
 
 def by_hand():
-    for tapes in (whole_tapes, torn_tapes, bad_headers, bad_records, wrong_answers, ends_of_entries, first_comes_first):
+    for tapes in (whole_tapes, torn_tapes, bad_headers, bad_records, wrong_answers, ends_of_entries, exceptions, first_comes_first):
         yield from tapes()
 
 
@@ -158,7 +177,8 @@ def reached(tape, printed):
 def wanted():
     codes = {1: (0, 3, 4, 5), 2: (0, 3, 4, 5), 3: (0, 3, 4), 4: (0, 2, 4, 7, 8), 5: (0, 2, 4), 6: (0, 2, 4, 13), 7: (0, 2, 4, 6, 7, 8, 10), 8: (0, 2, 4, 6, 7, 9),
              9: (0, 2, 4, 6, 7, 9), 10: (0, 2, 4, 6, 7, 8, 10, 12), 11: (0, 2, 4, 6, 7, 9)}
-    names = {f'op {op} code {code}' for op in codes for code in codes[op]} | {f'op {op} releases' for op in (5, 8, 11)}
+    codes |= {op: codes[8] for op in (12, 13, 14, 15)}
+    names = {f'op {op} code {code}' for op in codes for code in codes[op]} | {f'op {op} releases' for op in (5, 8, 11, 12, 14, 15)}
     names |= {f'running {task}' for task in range(32)} | {f'released {task}' for task in range(1, 32)} | {f'{over} bytes over' for over in range(16)}
     names |= {f'differs at op {op}' for op in codes} | {f'differs with tape code {code}' for code in range(14)}
     names |= {f'differs with rules code {code}' for code in (0, 2, 3, 4, 5, 6, 7, 8, 9, 10, 12, 13)}

@@ -102,8 +102,8 @@ def headers():
 
 def fields_past_their_last():
     """Each field at its last value, and one past it, where that is no record."""
-    last = record(11, 255, 255, 2**64 - 1, 13, 31, 31)
-    bad = [changed(last, change) for change in ((2, 12), (5, 14), (6, 32), (7, 32), (2, 0))]
+    last = record(15, 255, 255, 2**64 - 1, 13, 31, 31)
+    bad = [changed(last, change) for change in ((2, 16), (5, 14), (6, 32), (7, 32), (2, 0))]
     yield 'fields at their last value and past it', b''.join(last + other for other in bad) + last, [(16 + 32 * i, 16) for i in range(5)]
 
 
@@ -141,7 +141,7 @@ def why_none(tape, place):
         tests += [('op 0 away from byte 0', place != 0), ('edition', part[3:4] not in (b'\1', b'\2')), ('zeros', part[4:8] != bytes(4)),
                   ('seed', not 1 <= int.from_bytes(part[8:16], 'little') < 2**32)]
     elif len(part) == 16:
-        tests += [('op', part[2] > 11), ('code', part[5] > 13), ('running', part[6] > 31), ('released', part[7] > 31)]
+        tests += [('op', part[2] > 15), ('code', part[5] > 13), ('running', part[6] > 31), ('released', part[7] > 31)]
     return next((name for name, so in tests if so), None)
 
 
@@ -178,6 +178,7 @@ def reached(tape, printed, new):
         'a stretch at byte 0': dropped[:1] and dropped[0][0] == 0,
         'over 15 stretches': len(dropped) > 15,
         'a header of edition 2 kept': new[:4] == b'RV\0\2',
+        'ops 12 to 15 kept': set(new[2::16]) >= {12, 13, 14, 15},
         'a mark within a kept record': any(b'RV' in new[place + 1:place + 16] for place in range(0, len(new), 16)),
     }
     return names | {name for name, seen in tests.items() if seen}
@@ -188,7 +189,7 @@ def wanted():
     names |= {f'{length} bytes dropped at the end' for length in range(1, 16)}
     names |= {'no record for its ' + name for name in ('short', 'mark', 'op', 'code', 'running', 'released', 'op 0 away from byte 0', 'edition', 'zeros', 'seed')}
     return names | {'header yes', 'header no', 'no byte', 'nothing dropped', 'all dropped', 'a stretch at byte 0', 'over 15 stretches',
-                    'a header of edition 2 kept', 'a mark within a kept record'}
+                    'a header of edition 2 kept', 'ops 12 to 15 kept', 'a mark within a kept record'}
 
 
 # ---- The files

@@ -60,6 +60,17 @@ def walks():
     # barriers of `done`, in and out of their range, and its lines of bad form
     yield text('create 1 3', 'object 1 4', 'done 1', 'done 1 2', 'done 1 0', 'done 1 1', 'start', 'done 1 1', 'open 1', 'done 1 1', 'closef 1', 'entry 1 1', 'done',
                'done 1', 'done 1 ', 'done 1 0 0', 'done 1 00', 'done 1 +1', 'done 1 256', 'done 1 255', 'done 256 1', 'done 8 1', 'done 2 1', 'done 1 1', 'done 1 1')
+    # bodies that end in an exception: the words in their forms, and each refusal
+    words = ('failp 1', 'failp 1 1', 'failp 1 0', 'failf 1', 'failf 1 0', 'faile 1', 'faile 1 1', 'faile 1 0', 'failw', 'failw 1 1', 'failw 1 0', 'fail 1 1')
+    yield text('create 1 3', 'object 1 4', *words, 'closep 1 1', 'closef 1', 'start', *words, 'failp 1 2', 'failp 0 1', 'failp 8 1', 'failp 7 1', 'failf 8', 'failf 7', 'faile 1 2', 'faile 7 1',
+               'failw 1 2', 'failw 7 1', 'failp 256 1', 'failp 1 00', 'failf 01', 'faile 1 256', 'failw 1 1 1', 'open 1', 'faile 1 1', 'failp 1 1', 'entry 1 1',
+               'failp 1 1', 'failf 1', 'failw 1 1', 'faile 1 0', 'delay 5', *words)
+    # a task of higher, of equal and of lower base waits
+    fails = tuple(line for word in ('failp', 'failw', 'faile') for line in ('entry 1 0', 'entry 1 1' if word == 'faile' else 'open 1', word + ' 1 0',
+                  'entry 1 1' if word == 'faile' else 'open 1', word + ' 1 1', 'delay 9', 'wake', 'delay 9', 'advance 9', 'wake', 'wake')) + ('open 1', 'failf 1')
+    yield text('create 1 5', 'create 2 3', 'object 1 6', 'start', *fails)
+    yield text('create 1 3', 'create 2 3', 'object 1 3', 'start', *fails)
+    yield text('create 1 2', 'create 2 3', 'object 1 3', 'start', 'delay 1', 'entry 1 0', 'advance 1', 'wake', *fails[1:])
     # 31 tasks asleep, in ties of time and priority, and woken
     tasks = range(1, 32)
     yield text(*(f'create {i} {i % 15 + 1}' for i in tasks), 'create 32 1', 'create 31 1', 'start', *(f'delay {i % 4 + 3}' for i in tasks), 'delay 9', 'wake',
@@ -98,6 +109,8 @@ def draws():
     yield text(first(), *SETUP)[:-1]                                             # the start is the last line, without a line end
     yield text(first(), *SETUP, 'create 4 1', 'advance 5')                       # behind an accepted start no line is read
     yield text(first(), 'wake', '', 'creat 1 2', 'create 99 1', *SETUP)          # refused and malformed setup lines count
+    # closings by an exception are refused as setup lines, and never drawn
+    yield text(first(), 'failp 1 1', 'failf 1', 'faile 1 1', 'failw 1 0', 'failw 1 2', 'failf 1 0', *SETUP)
     for lines in first_lines().values():
         for line in lines:
             yield text(line, *SETUP)
@@ -165,11 +178,12 @@ def reached(kind, given, printed):
 def wanted():
     refusals = {1: (0, 3, 4, 5), 2: (0, 3, 4, 5), 3: (0, 3), 4: (0, 2, 7, 8), 5: (0, 2), 6: (0, 2, 13), 7: (0, 2, 4, 6, 7, 8, 10), 8: (0, 2, 4, 6, 7, 9),
                 9: (0, 2, 4, 6, 7, 9), 10: (0, 2, 4, 6, 7, 8, 10, 12), 11: (0, 2, 4, 6, 7, 9), 0: (14,)}
+    refusals |= {op: refusals[8] for op in (12, 13, 14, 15)}
     names = {f'walk: op {op} code {code}' for op, codes in refusals.items() for code in codes}
     names |= {f'draw: op {op} code 0' for op in range(1, 12)} | {f'draw: op 0 code {code}' for code in (2, 14, 17, 18)}
     both = ['op 5 releases', 'op 8 releases', 'op 11 releases', 'no input', 'no last line end', 'a line over 64 bytes', '31 tasks', 'byte 0', 'byte 13', 'byte 255', 'the edges of the decimals',
             'counts behind three pieces']
-    names |= {f'draw: {count} draws' for count in COUNTS}
+    names |= {f'draw: {count} draws' for count in COUNTS} | {f'walk: op {op} releases' for op in (12, 14, 15)} | {f'draw: op {op} code 2' for op in (12, 13, 14, 15)}
     return names | {f'{kind}: {name}' for kind in ('walk', 'draw') for name in both} | {'walk: a line over 4096 bytes', 'walk: the last tick'}
 
 

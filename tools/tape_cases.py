@@ -4,7 +4,7 @@
     python3 tools/tape_cases.py            write crates/tape_cases/data/NN and crates/tape_cases/stdout
     python3 tools/tape_cases.py --check    compare them with what is stored; exit status 1 on a difference
 
-It is written from document 01 ("Tape", "Numbers of refusal and their order") and request 4 (the editions are 1 and 2), and shares nothing with the library. docs/TAPE.md has the form of a case.
+It is written from document 01 ("Tape", "Numbers of refusal and their order") and requests 4 (the editions are 1 and 2) and 6 (ops run to 15), and shares nothing with the library. docs/TAPE.md has the form of a case.
 """
 import pathlib
 import struct
@@ -23,7 +23,7 @@ def fault(place, fields):
         if (op, b, code, running, released) != (0, 0, 0, 0, 0) or a not in (1, 2):
             return 15
         return 0 if value in range(1, 4294967296) else 17
-    return 0 if op in range(1, 12) and code in range(14) and running in range(32) and released in range(32) else 15
+    return 0 if op in range(1, 16) and code in range(14) and running in range(32) and released in range(32) else 15
 
 
 def read(tape, place):
@@ -146,7 +146,7 @@ def headers(f):
 def records(f):
     for tape in spoilt(GOOD, 16):
         f.tape(tape)
-    for i, values in ((0, range(0, 14)), (3, range(12, 17)), (4, (0, 30, 31, 32, 33, 255)), (5, (0, 30, 31, 32, 33, 255)), (1, (0, 255)), (2, (0, 255))):
+    for i, values in ((0, range(0, 18)), (3, range(12, 17)), (4, (0, 30, 31, 32, 33, 255)), (5, (0, 30, 31, 32, 33, 255)), (1, (0, 255)), (2, (0, 255))):
         for v in values:
             f.tape(GOOD[:16] + record(*(FIRST[:i] + (v,) + FIRST[i + 1:])))
     for value in SEEDS + tuple(1 << 8 * i for i in range(8)):
@@ -172,7 +172,7 @@ def writes(f):
         f.put(32, 16, FIRST[:6] + (seed,))
         f.put(0, 0, head[:6] + (seed,))
     for i in range(6):
-        for v in (0, 1, 2, 11, 12, 13, 14, 31, 32, 255):
+        for v in (0, 1, 2, 11, 12, 13, 14, 15, 16, 31, 32, 255):
             f.put(32, 0, head[:i] + (v,) + head[i + 1:])
             f.put(32, 16, FIRST[:i] + (v,) + FIRST[i + 1:])
 

@@ -8,7 +8,8 @@
 #include <stdio.h>
 #include <unistd.h>
 
-static const char *const words[] = {"", "create", "object", "start", "delay", "wake", "advance", "open", "closep", "closef", "entry", "done"};
+static const char *const words[] = {"", "create", "object", "start", "delay", "wake", "advance", "open", "closep", "closef", "entry", "done",
+                                    "failp", "failf", "faile", "failw"};
 
 static kernel machine;
 static uint64_t number, seed;
@@ -23,13 +24,13 @@ static int differs(const c_record *r, answer rules)
     printf("seed %" PRIu64 "\ndiffers at record %" PRIu64 ", byte %" PRIu64 ": %s", seed, number, 16 * number, words[r->op]);
     if (r->op <= 2 || r->op >= 7)
         printf(" %u", r->a);
-    if (r->op <= 2 || r->op == 8 || r->op >= 10)
+    if (r->op <= 2 || r->op == 8 || (r->op >= 10 && r->op != 13))
         printf(" %u", r->b);
     if (r->op == 4 || r->op == 6)
         printf(" %" PRIu64, r->value);
     printf(" (op %u, a %u, b %u, value %" PRIu64 "); ", r->op, r->a, r->b, r->value);
     show_answer("tape", r->code, r->running, r->released, "; ");
-    show_answer("rules", rules & 255, rules >> 8 & 255, rules >> 16, "\n");
+    show_answer("rules", rules & 255, rules >> 8 & 255, rules >> 16 & 255, "\n");
     return 1;
 }
 
@@ -50,6 +51,7 @@ static int judge(const uint8_t *bytes)
         seed = r.value;
     } else {
         answer rules = step_trusting(&machine, (command){r.op, r.a, r.b, r.value});
+        rules &= ~(answer)EXCEPTION; /* a record does not carry it */
         if (rules != (r.code | (answer)r.running << 8 | (answer)r.released << 16))
             return differs(&r, rules);
     }

@@ -67,7 +67,7 @@ static void make(uint8_t *tape, size_t n, int kind)
         for (size_t i = 0; i + 16 <= n; i += 16) {
             tape[i] = 0x52;
             tape[i + 1] = 0x56;
-            tape[i + 2] = (uint8_t)(1 + tape[i + 2] % 11);
+            tape[i + 2] = (uint8_t)(1 + tape[i + 2] % 15);
             tape[i + 5] %= 14;
             tape[i + 6] %= 32;
             tape[i + 7] %= 32;

@@ -9,7 +9,7 @@ typedef struct {
 
 static inline int c_command(const uint8_t *p)
 {
-    return p[0] == 0x52 && p[1] == 0x56 && p[2] >= 1 && p[2] <= 11 && p[5] <= 13 && p[6] <= 31 && p[7] <= 31;
+    return p[0] == 0x52 && p[1] == 0x56 && p[2] >= 1 && p[2] <= 15 && p[5] <= 13 && p[6] <= 31 && p[7] <= 31;
 }
 
 static int c_header(const uint8_t *p)

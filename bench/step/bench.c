@@ -7,7 +7,8 @@
 #include "kernel.h"
 #include "../../host/rvn_image.h"
 
-/* crate kernel_bench; a slice is a pointer and a length */
+/* crate kernel_bench; a slice is a pointer and a length. It gathers each answer as `mixed` does: code + 256 * running + 65536 * released, and
+   16777216 more where the answer shows an exception. */
 uint64_t bench_run(const uint8_t *ops, size_t, const uint8_t *a, size_t, const uint8_t *b, size_t, const uint64_t *values, size_t, uint64_t sum);
 
 static uint64_t mixed(uint64_t sum, answer r) {
@@ -37,16 +38,22 @@ static uint32_t draw(uint32_t n) {
     return seed % n;
 }
 
+/* A closing command, or one time in four the one that ends in an exception and moves tasks alike. */
+static unsigned closing(unsigned op) {
+    unsigned x = draw(8);
+    return x > 1 ? op : op == 8 ? (x ? 15 : 12) : op == 9 ? 13 : 14;
+}
+
 /* A command for a started machine: one in sixteen is anything at all, the others follow the state, so that most are accepted. */
 static command drawn(const kernel *k) {
     unsigned r = k->ready[0], o = k->held[r];
-    if (!draw(16)) return (command){ draw(14), draw(9), draw(3), draw(4) };
+    if (!draw(16)) return (command){ draw(18), draw(9), draw(3), draw(4) };
     unsigned kind = draw(100);
     if (!r) return kind < 60 ? (command){ 6, 0, 0, 1 + draw(40) } : (command){ 5, 0, 0, 0 };
     if (kind < 20) return (command){ 5, 0, 0, 0 };
     if (kind < 40) return (command){ 6, 0, 0, 1 + draw(8) };
-    if (o && k->way[r] == 2) return (command){ 11, o, draw(2), 0 };
-    if (o) return kind < 70 ? (command){ 8, o, draw(2), 0 } : (command){ 9, o, 0, 0 };
+    if (o && k->way[r] == 2) return (command){ closing(11), o, draw(2), 0 };
+    if (o) return kind < 70 ? (command){ closing(8), o, draw(2), 0 } : (command){ closing(9), o, 0, 0 };
     if (kind < 65) return (command){ 4, 0, 0, k->clock + draw(8) * draw(60) };
     return kind < 85 ? (command){ 7, 1 + draw(7), 0, 0 } : (command){ 10, 1 + draw(7), draw(4) > 0, 0 };
 }
@@ -61,7 +68,7 @@ int main(int argc, char **argv) {
     size_t n = argc > 1 ? strtoull(argv[1], 0, 10) : 100000, rounds = argc > 2 ? strtoull(argv[2], 0, 10) : 20;
     const char *only = argc > 3 ? argv[3] : "";
     uint8_t *ops = malloc(n), *a = malloc(n), *b = malloc(n);
-    uint64_t *values = malloc(8 * n), lines = 0, accepted = 0, of_op[16] = { 0 };
+    uint64_t *values = malloc(8 * n), lines = 0, accepted = 0, exceptions = 0, of_op[16] = { 0 };
     kernel k;
     memset(&k, 0, sizeof k);
     for (size_t i = 0; i < n; i++) {
@@ -69,6 +76,7 @@ int main(int argc, char **argv) {
         ops[i] = c.op; a[i] = c.a; b[i] = c.b; values[i] = c.value;
         answer r = step(&k, c);
         if (!(r & 255)) accepted++, of_op[c.op]++;
+        if (r & EXCEPTION) exceptions++;
         for (int j = 0; j < 32 && k.delayed[j]; j++) lines++;
     }
     double best_c = 1e300, best_r = 1e300, best_i = 1e300;
@@ -87,7 +95,8 @@ int main(int argc, char **argv) {
     }
     if (*only) return printf("%llx\n", (unsigned long long)(sum_c + sum_r + sum_i)) < 0;
     printf("%zu commands, %.1f%% accepted, %.1f tasks delayed on average; by op:", n, 100.0 * accepted / n, (double)lines / n);
-    for (int op = 1; op < 12; op++) printf(" %llu", (unsigned long long)of_op[op]);
+    for (int op = 1; op < 16; op++) printf(" %llu", (unsigned long long)of_op[op]);
+    printf("; exceptions shown: %llu", (unsigned long long)exceptions);
     bool equal = sum_c == sum_r && sum_c == sum_i;
     printf("\nanswers %s\n", equal ? "equal" : "DIFFER");
     printf("C       %7.1f ns a step\nRattle  %7.1f ns a step\nratio   %7.2f\n", best_c / n, best_r / n, best_r / best_c);

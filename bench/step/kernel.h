@@ -10,13 +10,15 @@ typedef struct {
     uint64_t until[32];
     uint8_t ceiling[8], waiter[8];
     uint64_t clock;
+    uint32_t pending; /* bit t: an exception of task t that no answer has shown */
     bool started;
 } kernel;
 
 typedef struct { uint8_t op, a, b; uint64_t value; } command;
 
-/* code + 256 * running + 65536 * released */
+/* code + 256 * running + 65536 * released, and EXCEPTION if it shows one of the running task */
 typedef uint32_t answer;
+enum { EXCEPTION = 1 << 24 };
 
 static inline unsigned level(const kernel *k, unsigned t) {
     unsigned o = k->held[t];
@@ -65,8 +67,8 @@ static bool sound(const kernel *k) {
             hands |= 1u << o;
         }
     }
-    if ((ready & late) | (ready & wait) | (late & wait) | ((ready | late | wait) ^ made)) return false;
-    return k->started || (!k->clock && !late && !wait && !hands);
+    if ((ready & late) | (ready & wait) | (late & wait) | ((ready | late | wait) ^ made) | (k->pending & ~made)) return false;
+    return k->started || (!k->clock && !late && !wait && !hands && !k->pending);
 }
 
 static bool formed(command c) {
@@ -76,8 +78,8 @@ static bool formed(command c) {
     case 2: return object && c.b >= 1 && c.b <= 15 && !c.value;
     case 3: case 5: return !c.a && !c.b && !c.value;
     case 4: case 6: return !c.a && !c.b;
-    case 7: case 9: return object && !c.b && !c.value;
-    case 8: case 10: case 11: return object && c.b <= 1 && !c.value;
+    case 7: case 9: case 13: return object && !c.b && !c.value;
+    case 8: case 10: case 11: case 12: case 14: case 15: return object && c.b <= 1 && !c.value;
     default: return false;
     }
 }
@@ -105,10 +107,10 @@ static unsigned refusal(const kernel *k, command c) {
         if (k->base[r] > k->ceiling[c.a]) return 10;
         if (memchr(k->held, c.a, 32)) return 11;
         return c.op == 10 && !c.b && k->waiter[c.a] ? 12 : 0;
-    case 8: case 9: case 11:
+    case 8: case 9: case 11: case 12: case 13: case 14: case 15:
         if (!k->ceiling[c.a]) return 6;
         if (!r) return 7;
-        return k->held[r] == c.a && k->way[r] == (c.op == 11 ? 2 : 1) ? 0 : 9;
+        return k->held[r] == c.a && k->way[r] == (c.op == 11 || c.op == 14 ? 2 : 1) ? 0 : 9;
     default: return 0;
     }
 }
@@ -135,6 +137,11 @@ static void close_object(kernel *k) {
     k->held[r] = k->way[r] = 0;
     pop(k->ready);
     place(k, k->base[r] + 1u, r);
+}
+
+/* what an accepted closing by an exception leaves: bit 0, idle's, is that of nobody */
+static inline uint32_t raised(unsigned op, unsigned closer, unsigned released) {
+    return op < 12 ? 0 : (1u << (op == 15 ? released : closer)) & ~1u;
 }
 
 /* the step of a machine known to be sound */
@@ -165,7 +172,7 @@ static answer step_trusting(kernel *k, command c) {
         break;
     case 6: k->clock += c.value; break;
     case 7: k->held[r] = c.a; k->way[r] = 1; break;
-    case 8: case 11:
+    case 8: case 11: case 12: case 14: case 15:
         if (c.b && k->waiter[c.a]) {
             t = k->waiter[c.a];
             k->waiter[c.a] = 0;
@@ -183,7 +190,10 @@ static answer step_trusting(kernel *k, command c) {
         break;
     default: close_object(k); break;
     }
-    return 256u * (k->started ? k->ready[0] : 0) + 65536u * t;
+    unsigned now = k->started ? k->ready[0] : 0;
+    uint32_t all = k->pending | raised(c.op, r, t);
+    k->pending = all & ~(1u << now);
+    return 256u * now + 65536u * t + EXCEPTION * (all >> now & 1);
 }
 
 static inline answer step(kernel *k, command c) {

@@ -17,7 +17,7 @@ static inline int c_fault(size_t at, const c_record *r)
             return 15;
         return r->value >= 1 && r->value <= 4294967295u ? 0 : 17;
     }
-    return r->op >= 1 && r->op <= 11 && r->code <= 13 && r->running <= 31 && r->released <= 31 ? 0 : 15;
+    return r->op >= 1 && r->op <= 15 && r->code <= 13 && r->running <= 31 && r->released <= 31 ? 0 : 15;
 }
 
 /* the fields of 16 bytes */

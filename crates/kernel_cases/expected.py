@@ -1,5 +1,5 @@
 #!/usr/bin/env python3
-"""Prints what kernel_cases is to print of the table in stdin, from document 01 with request 2 of document 02: python3 expected.py > stdout
+"""Prints what kernel_cases is to print of the table in stdin, from document 01 with requests 2 and 6 of document 02: python3 expected.py > stdout
 
 It also holds each spoilt state to the conditions that its line names: a state that is spoilt in another condition too is no case of that one.
 """

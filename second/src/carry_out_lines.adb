@@ -13,7 +13,7 @@ procedure Carry_Out_Lines
    begin
       Read_Command (Bytes, Form, C);
       if Form = Bad_Line then
-         Result := (Bad_Line, Running (Kernel), Idle);
+         Result := (Bad_Line, Running (Kernel), others => <>);
       else
          Step (Kernel, C, Result);
       end if;

@@ -55,7 +55,11 @@ package body Command_Text is
          when Op_Closep  => "closep",
          when Op_Closef  => "closef",
          when Op_Entry   => "entry",
-         when Op_Done    => "done");
+         when Op_Done    => "done",
+         when Op_Failp   => "failp",
+         when Op_Failf   => "failf",
+         when Op_Faile   => "faile",
+         when Op_Failw   => "failw");
 
    --  What stands behind the word: "its operands in the table's order (a, b,
    --  value)".
@@ -65,9 +69,10 @@ package body Command_Text is
      (case Op is
          when Op_Start | Op_Wake                        => None,
          when Op_Delay | Op_Advance                     => Value_Only,
-         when Op_Open | Op_Closef                       => A_Only,
+         when Op_Open | Op_Closef | Op_Failf            => A_Only,
          when Op_Create | Op_Object
-            | Op_Closep | Op_Entry | Op_Done            => A_And_B);
+            | Op_Closep | Op_Entry | Op_Done
+            | Op_Failp | Op_Faile | Op_Failw            => A_And_B);
 
    function Operand_Count (Op : Known_Op) return Natural is
      (case Operands_Of (Op) is

@@ -10,7 +10,7 @@ package Command_Text is
    Longest_Command    : constant := 64;
    Longest_First_Line : constant := 128;
 
-   subtype Known_Op is Natural range Op_Create .. Op_Done;
+   subtype Known_Op is Natural range Op_Create .. Last_Op;
 
    --  Whether a line, without its line end, has the form of a command.
    --  Where it has not, Number is 14 and the command is all zeros.

@@ -1,6 +1,7 @@
 package body Fresh_Numbers is
 
    Current : Ticks := 0;
+   Aside   : Ticks := 0;
 
    procedure Start (Kind : Character; Number : Ticks) is
    begin
@@ -9,17 +10,32 @@ package body Fresh_Numbers is
       for I in 1 .. 3 loop
          Current := Any;
       end loop;
+      Aside := not Current;
    end Start;
 
-   function Any return Ticks is
+   procedure Draw (From : in out Ticks; Drawn : out Ticks) is
       Mixed : Ticks;
    begin
-      Current := Current + 16#9E37_79B9_7F4A_7C15#;
-      Mixed := Current;
+      From  := From + 16#9E37_79B9_7F4A_7C15#;
+      Mixed := From;
       Mixed := (Mixed xor (Mixed / 2 ** 30)) * 16#BF58_476D_1CE4_E5B9#;
       Mixed := (Mixed xor (Mixed / 2 ** 27)) * 16#94D0_49BB_1331_11EB#;
-      return Mixed xor (Mixed / 2 ** 31);
+      Drawn := Mixed xor (Mixed / 2 ** 31);
+   end Draw;
+
+   function Any return Ticks is
+      Drawn : Ticks;
+   begin
+      Draw (Current, Drawn);
+      return Drawn;
    end Any;
+
+   function Below_Aside (Limit : Positive) return Natural is
+      Drawn : Ticks;
+   begin
+      Draw (Aside, Drawn);
+      return Natural (Drawn mod Ticks (Limit));
+   end Below_Aside;
 
    --  The remainder is a little uneven; for test input that does not matter.
    function Below (Limit : Positive) return Natural is

@@ -21,4 +21,8 @@ package Fresh_Numbers is
    --  True in that many of 100 cases.
    function Chance (Percent : Natural) return Boolean;
 
+   --  As Below, from a sequence of its own: what it is asked for leaves the
+   --  other numbers, and so all the rest of an input, as they are.
+   function Below_Aside (Limit : Positive) return Natural;
+
 end Fresh_Numbers;

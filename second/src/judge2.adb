@@ -80,6 +80,7 @@ procedure Judge2 is
             By_Rules : Answer;
          begin
             Step (Kernel, C, By_Rules);
+            By_Rules.Failed := False;  --  a record does not carry it
             if On_Tape /= By_Rules then
                return Differs (Number, C, On_Tape, By_Rules);
             end if;

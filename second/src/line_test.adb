@@ -2,9 +2,10 @@
 --  and compares the two orders after each of many steered commands.  It also
 --  watches what must hold on the way: Wakes left counts down with each Wake
 --  and with nothing else; no task ahead of a holder could take what it holds
---  (so that Held, 11, does not occur from the fresh machine); and between a
+--  (so that Held, 11, does not occur from the fresh machine); between a
 --  task's release and its next run one lower task runs at most, inside an
---  object.
+--  object; and an exception is shown once, by the first accepted answer that
+--  names its task as running.
 
 with Ada.Command_Line;
 with Ada.Containers.Doubly_Linked_Lists;
@@ -70,7 +71,7 @@ procedure Line_Test is
    procedure Follow (Before, After : State; C : Command; Result : Answer) is
       Runner : constant Task_Id := Running (Before);
    begin
-      case C.Op is
+      case Matching (C.Op) is
          when Op_Create =>
             Place_At_Tail (After, Task_Id (C.A));
          when Op_Delay =>
@@ -168,7 +169,54 @@ procedure Line_Test is
       end loop;
    end Check_Wakes;
 
-   --  A task released by op 5, 8 or 11, until it runs.
+   --  When an exception was last set for a task, and when an accepted answer
+   --  last named it as running; by the count of commands.
+   type Count_Of_Task is array (Task_Id) of Ticks;
+   Set_At, Named_At   : Count_Of_Task := (others => 0);
+   Commands           : Ticks := 0;
+   At_Once, Later     : Ticks := 0;  --  exceptions shown
+
+   procedure Set_Exception (C : Command; Closer : Task_Id; Result : Answer) is
+   begin
+      if C.Op in Op_Failp | Op_Failf | Op_Faile then
+         Set_At (Closer) := Commands;
+      elsif C.Op = Op_Failw and then Result.Released /= Idle then
+         Set_At (Result.Released) := Commands;
+      end if;
+   end Set_Exception;
+
+   --  An answer shows an exception exactly where one was set for its running
+   --  task, by it or since the last accepted one that named the task.
+   procedure Check_Exceptions
+     (Before, After : State; C : Command; Result : Answer)
+   is
+      Runner : Task_Id renames Result.Running;
+   begin
+      Commands := Commands + 1;
+      if Result.Number = Accepted then
+         Set_Exception (C, Running (Before), Result);
+         if Result.Failed /= (Set_At (Runner) > Named_At (Runner)) then
+            Complain ("an exception is shown that was not set, or not shown");
+         end if;
+         if Result.Failed and then Set_At (Runner) = Commands then
+            At_Once := At_Once + 1;
+         elsif Result.Failed then
+            Later := Later + 1;
+         end if;
+         Named_At (Runner) := Commands;
+      elsif Result.Failed then
+         Complain ("a refused answer shows an exception");
+      end if;
+      for T in Task_Id loop
+         if After.Owed (T) /= (Set_At (T) > Named_At (T))
+           or else (After.Owed (T) and then After.Tasks (T).Stands /= Ready)
+         then
+            Complain ("pending, though shown or of no ready task");
+         end if;
+      end loop;
+   end Check_Exceptions;
+
+   --  A task released by op 5, 8, 11, 12, 14 or 15, until it runs.
    type Object_Of_Task is array (Task_Id) of Object_Id;
    type Release is record
       Is_Watched : Boolean := False;
@@ -180,7 +228,7 @@ procedure Line_Test is
    type Release_Set is array (Task_Id) of Release;
 
    Releases : Release_Set;
-   Watched  : array (Op_Wake .. Op_Done) of Ticks := (others => 0);
+   Watched  : array (Op_Wake .. Last_Op) of Ticks := (others => 0);
 
    --  After the command: what the runner closed is kept no more, and the
    --  released task is watched.
@@ -189,7 +237,7 @@ procedure Line_Test is
    is
       New_One : Release := (Is_Watched => True, others => <>);
    begin
-      if C.Op in Op_Closep | Op_Closef | Op_Done then
+      if Matching (C.Op) in Op_Closep | Op_Closef | Op_Done then
          for R of Releases loop
             R.Kept (Running (Before)) := Null_Object;
          end loop;
@@ -206,7 +254,8 @@ procedure Line_Test is
    --  "if the tasks running at i and at j both have a base below T's, they
    --  are one task L; L holds an object O in s k; and L has closed O at no
    --  command from k+1 to i" (READINGS, Release; a release by done too, by
-   --  change request 2)
+   --  change request 2; "Demand 3 reads these closings as closings", change
+   --  request 6)
    procedure Check_Releases (M : State) is
       Runner : constant Task_Id := Running (M);
    begin
@@ -244,6 +293,7 @@ procedure Line_Test is
       Compare_Lines (M);
       Check_Holders (M);
       Check_Wakes (Before, M, C, Result);
+      Check_Exceptions (Before, M, C, Result);
       Check_Releases (M);
    end Run_Command;
 
@@ -256,6 +306,8 @@ procedure Line_Test is
       Line.Clear;
       Line.Append (Idle);
       Releases := (others => <>);
+      Set_At   := (others => 0);
+      Named_At := (others => 0);
       for I in 1 .. Between (1, 31) loop
          Run_Command (M, New_Task (M, Likes));
       end loop;
@@ -275,15 +327,25 @@ begin
    for Number in Ticks range 1 .. 200 loop
       Run_Script (Number);
    end loop;
-   for Op in Op_Wake .. Op_Done loop
-      if Op in Op_Wake | Op_Closep | Op_Done and then Watched (Op) = 0 then
+   for Op in Op_Wake .. Last_Op loop
+      if Matching (Op) in Op_Wake | Op_Closep | Op_Done
+        and then Watched (Op) = 0
+      then
          Complain ("op" & Op'Image & " released nobody");
       end if;
    end loop;
+   if At_Once = 0 or else Later = 0 then
+      Complain ("no exception was shown at once, or none later");
+   end if;
    Put_Line ("line_test: " & Image (Compared) & " lines compared, "
              & Image (Watched (Op_Wake)) & " releases by wake, "
              & Image (Watched (Op_Closep)) & " by closep and "
-             & Image (Watched (Op_Done)) & " by done watched, "
+             & Image (Watched (Op_Done)) & " by done, "
+             & Image (Watched (Op_Failp)) & " by failp, "
+             & Image (Watched (Op_Faile)) & " by faile and "
+             & Image (Watched (Op_Failw)) & " by failw watched, "
+             & Image (At_Once) & " exceptions shown at once and "
+             & Image (Later) & " later, "
              & Image (Failures) & " failures");
    Flush;
    Ada.Command_Line.Set_Exit_Status (if Failures = 0 then 0 else 1);

@@ -335,15 +335,57 @@ package body Machine is
       end case;
    end Perform;
 
+   ----------------
+   -- Exceptions --
+   ----------------
+
+   --  "The exception belongs to the runner", of ops 12 .. 14; of op 15 "it is
+   --  the released task's, nobody's if none was".  Nobody is Idle, who never
+   --  closes and is never released.
+   function Whose (Op : Natural; Closer, Released : Task_Id) return Task_Id is
+     (case Op is
+         when Op_Failp | Op_Failf | Op_Faile => Closer,
+         when Op_Failw                       => Released,
+         when others                         => Idle);
+
+   --  "An exception for a task with one pending keeps the older."
+   procedure Owe (M : in out State; T : Task_Id) is
+   begin
+      if T /= Idle then
+         M.Owed (T) := True;
+      end if;
+   end Owe;
+
+   --  "The first accepted answer that names that task as running shows it,
+   --  the closing command's own answer included, and clears it."
+   procedure Show (M : in out State; Runner : Task_Id; Failed : out Boolean) is
+   begin
+      Failed          := M.Owed (Runner);
+      M.Owed (Runner) := False;
+   end Show;
+
+   ----------
+   -- Step --
+   ----------
+
    --  "A refused step answers its number, the running task, released 0 and
    --  the same state".
+   --
+   --  Ops 12 .. 15 (change request 6): "They move tasks as closep, closef and
+   --  done do"; "Refusals: those of the matching closing command, in the same
+   --  order."
    procedure Step (M : in out State; C : Command; Result : out Answer) is
+      Closer  : constant Task_Id := Running (M);
+      Matched : constant Command := (Matching (C.Op), C.A, C.B, C.Value);
    begin
-      Result := (Number => Refusal (M, C), others => Idle);
+      Result         := (Number => Refusal (M, Matched), others => <>);
+      Result.Running := Closer;
       if Result.Number = Accepted then
-         Perform (M, C, Result.Released);
+         Perform (M, Matched, Result.Released);
+         Owe (M, Whose (C.Op, Closer, Result.Released));
+         Result.Running := Running (M);
+         Show (M, Result.Running, Result.Failed);
       end if;
-      Result.Running := Running (M);
    end Step;
 
    --  "(checks 1, 4, 6): if the task is delayed and due, one more than the

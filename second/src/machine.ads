@@ -54,6 +54,14 @@ package Machine is
    Op_Closef  : constant := 9;
    Op_Entry   : constant := 10;
    Op_Done    : constant := 11;
+   --  "Add ops 12, 13 and 14, which end a procedure, a function and an entry
+   --  by an exception ... A fourth command, op 15, moves tasks as closep does
+   --  and says the waiter's entry body failed meanwhile" (change request 6)
+   Op_Failp   : constant := 12;
+   Op_Failf   : constant := 13;
+   Op_Faile   : constant := 14;
+   Op_Failw   : constant := 15;
+   Last_Op    : constant := Op_Failw;
 
    type Command is record
       Op    : Natural := 0;
@@ -62,16 +70,19 @@ package Machine is
       Value : Ticks   := 0;
    end record;
 
+   --  Failed: the answer shows the running task's exception.  "Records do not
+   --  carry it".
    type Answer is record
       Number   : Code    := Accepted;
       Running  : Task_Id := Idle;
       Released : Task_Id := Idle;
+      Failed   : Boolean := False;
    end record;
 
    --  When something happened, against other things that happened.
    type Moment is range -2 ** 62 .. 2 ** 62;
 
-   --  "8, 9 end an open; 11 ends an entry"
+   --  "8, 9 end an open; 11 ends an entry"; 12, 13 and 15 an open, 14 an entry
    type Way_In is (By_Open, By_Entry);
 
    --  "each created task stands in exactly one of ready, delayed, waiting"
@@ -100,6 +111,7 @@ package Machine is
    end record;
 
    type Task_Set is array (Task_Id) of Task_State;
+   type Flag_Set is array (Task_Id) of Boolean;
    type Object_Set is array (Real_Object) of Object_State;
 
    --  "The fresh machine has task 0 alone, no object, clock 0, and is not
@@ -108,6 +120,8 @@ package Machine is
       Tasks     : Task_Set := (Idle   => (Stands => Ready, others => <>),
                                others => (Stands => Absent, others => <>));
       Objects   : Object_Set;
+      Owed      : Flag_Set := (others => False);
+      --  "The state remembers one pending exception for each task."
       Clock     : Ticks   := 0;
       Started   : Boolean := False;
       Last_Turn : Moment  := 0;  --  the highest turn given at a tail
@@ -133,6 +147,15 @@ package Machine is
 
    --  The first of the delay line; Idle if it is empty.
    function First_Delayed (M : State) return Task_Id;
+
+   --  The closing command whose moves and refusals an op of 12 .. 15 has;
+   --  another op is its own.
+   function Matching (Op : Natural) return Natural is
+     (case Op is
+         when Op_Failp | Op_Failw => Op_Closep,
+         when Op_Failf            => Op_Closef,
+         when Op_Faile            => Op_Done,
+         when others              => Op);
 
    --  One command: the state after it and the answer.
    procedure Step (M : in out State; C : Command; Result : out Answer);

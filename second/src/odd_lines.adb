@@ -146,15 +146,16 @@ package body Odd_Lines is
    function Near_Word return String is
      (case Below (11) is
          when 0      => "stop",
-         when 1      => "wak",
-         when 2      => "wakes",
+         when 1      => (if Below_Aside (2) = 0 then "wak" else "fail 1 1"),
+         when 2      => (if Below_Aside (2) = 0 then "wakes" else "failed 1"),
          when 3      => "wake 0",
          when 4      => "start 0",
-         when 5      => "close 1",
-         when 6      => "closep1 1",
+         when 5      => (if Below_Aside (2) = 0 then "close 1" else "failp 1"),
+         when 6      => (if Below_Aside (2) = 0 then "closep1 1"
+                         else "failf 1 0"),
          when 7      => "5",
-         when 8      => "create",
-         when 9      => "done 1",
+         when 8      => (if Below_Aside (2) = 0 then "create" else "faile 1"),
+         when 9      => (if Below_Aside (2) = 0 then "done 1" else "failw 1"),
          when others => "n op code run rel clock");
 
    function Slip_Of_Blank (Good : String) return String is

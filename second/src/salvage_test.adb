@@ -76,7 +76,7 @@ procedure Salvage_Test is
            and then Tape (12 .. 15) = Octets'(0, 0, 0, 0)
            and then Tape (8 .. 11) /= Octets'(0, 0, 0, 0)
          else
-           Tape (Place + 2) <= 11 and then Tape (Place + 5) <= 13
+           Tape (Place + 2) <= 15 and then Tape (Place + 5) <= 13
            and then Tape (Place + 6) <= 31 and then Tape (Place + 7) <= 31));
 
    --  At no byte of a stretch does a record begin; between the stretches

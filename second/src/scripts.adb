@@ -23,12 +23,15 @@ package body Scripts is
       Form    : Code;
       Ignored : Answer;
    begin
+      Read_Command (Line, Form, C);
+      if Only_Commands and then Form /= Accepted then
+         return;
+      end if;
       if not Is_First then
          Put (Line_End);
       end if;
       Is_First := False;
       Put (Line);
-      Read_Command (Line, Form, C);
       if Form = Accepted then
          Step (Kernel, C, Ignored);
       end if;

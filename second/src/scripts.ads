@@ -8,6 +8,9 @@ package Scripts is
 
    Kernel : State;  --  after the lines so far
 
+   --  Lines that are no command are left out.
+   Only_Commands : Boolean := False;
+
    --  What goes wrong, in percent of the lines.
    type Mischief is record
       Malformed : Natural := 0;

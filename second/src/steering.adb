@@ -55,6 +55,26 @@ package body Steering is
          when 9      => 2,
          when others => Below (34));
 
+   ----------------
+   -- Exceptions --
+   ----------------
+
+   --  The op that fails as Op closes; of the two for closep the second where
+   --  Second says so.
+   function Failing_Op (Op : Natural; Second : Boolean) return Natural is
+     (case Op is
+         when Op_Closep => (if Second then Op_Failw else Op_Failp),
+         when Op_Closef => Op_Failf,
+         when Op_Done   => Op_Faile,
+         when others    => Op);
+
+   function Or_Failing (C : Command) return Command is
+      Choice : constant Natural := Below_Aside (5);
+   begin
+      return (if Choice <= 1 then C
+              else (Failing_Op (C.Op, Choice = 4), C.A, C.B, C.Value));
+   end Or_Failing;
+
    -------------
    -- Objects --
    -------------
@@ -221,7 +241,7 @@ package body Steering is
       end case;
    end Taking;
 
-   function Accepted_Command (M : State; Likes : Taste) return Command is
+   function Good_Command (M : State; Likes : Taste) return Command is
       Runner : constant Task_Id := Running (M);
       Point  : constant Natural :=
         Below (Likes.Waking + Likes.Passing + Likes.Busy + Likes.Sleepy);
@@ -240,7 +260,10 @@ package body Steering is
       else
          return (Op_Delay, 0, 0, Some_Time (M, Likes.Far));
       end if;
-   end Accepted_Command;
+   end Good_Command;
+
+   function Accepted_Command (M : State; Likes : Taste) return Command is
+     (Or_Failing (Good_Command (M, Likes)));
 
    -------------
    -- Refused --
@@ -386,8 +409,8 @@ package body Steering is
    end Refused_After_Start;
 
    function Refused_Command (M : State; Likes : Taste) return Command is
-     (if M.Started then Refused_After_Start (M, Likes)
-      else Refused_Before_Start (M, Likes));
+     (Or_Failing (if M.Started then Refused_After_Start (M, Likes)
+                  else Refused_Before_Start (M, Likes)));
 
    --  0 .. 2^64-1, as often short as long.
    function Some_Value (M : State) return Ticks is
@@ -406,12 +429,12 @@ package body Steering is
       A  : constant Natural := Some_Operand;
       B  : constant Natural := Some_Operand;
    begin
-      return (case Op is
-                 when Op_Delay | Op_Advance =>
-                   (Op, 0, 0, Some_Value (M)),
-                 when Op_Start | Op_Wake    => (Op, 0, 0, 0),
-                 when Op_Open | Op_Closef   => (Op, A, 0, 0),
-                 when others                => (Op, A, B, 0));
+      return Or_Failing
+        (case Op is
+            when Op_Delay | Op_Advance => (Op, 0, 0, Some_Value (M)),
+            when Op_Start | Op_Wake    => (Op, 0, 0, 0),
+            when Op_Open | Op_Closef   => (Op, A, 0, 0),
+            when others                => (Op, A, B, 0));
    end Random_Command;
 
 end Steering;

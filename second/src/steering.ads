@@ -2,6 +2,10 @@
 --  that a script gets far: into preemption inside objects, waiters, long
 --  delay lines, ties.  Each function answers some command of its sort where
 --  there is one, else another command.
+--
+--  Closing commands are chosen among closep, closef and done; then a number
+--  aside says which of them become one of 12 .. 15, which moves tasks alike.
+--  So an input is, but for these, what its number made before there were any.
 
 with Machine; use Machine;
 
@@ -32,5 +36,8 @@ package Steering is
 
    --  Any op, operands mostly in or near their ranges.
    function Random_Command (M : State) return Command;
+
+   --  A closing command is, in some cases, one that ends in an exception.
+   function Or_Failing (C : Command) return Command;
 
 end Steering;

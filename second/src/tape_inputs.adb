@@ -123,7 +123,7 @@ package body Tape_Inputs is
       Value  : constant Ticks := Some_Value;
       Choice : constant Natural := Below (3);
    begin
-      return (case C.Op is
+      return (case Matching (C.Op) is
                  when Op_Start | Op_Wake    =>
                    (case Choice is
                        when 0      => (C.Op, Small, 0, 0),
@@ -146,7 +146,7 @@ package body Tape_Inputs is
       B     : constant Natural := Below (256);
       Value : constant Ticks := Any;
    begin
-      return (Op, A, B, Value);
+      return Or_Failing ((Op, A, B, Value));
    end Wild_Command;
 
    --  Operands are bytes here; in text a few made to be refused are larger.
@@ -332,7 +332,7 @@ package body Tape_Inputs is
          when 0      => Result (0) := Bytes (0) xor Change;
          when 1      => Result (1) := Bytes (1) xor Change;
          when 2      => Result (2) := 0;
-         when 3 | 4  => Result (2) := At_Least (12);
+         when 3 | 4  => Result (2) := At_Least (16);
          when 5      => Result (2) := 255;
          when 6 | 7  => Result (5) := At_Least (14);
          when 8      => Result (6) := At_Least (32);

@@ -30,7 +30,8 @@ package Tape_Inputs is
       Editions);      --  any kind before, the header's edition changed so
 
    --  One of those that document 01 has: a number makes the tape that it made
-   --  before change request 4.
+   --  before change request 4, but for closings that are of ops 12 to 15 now
+   --  (change request 6).
    function Some_Kind return Kind
      with Post => Some_Kind'Result in Right .. Empty;
 

@@ -67,10 +67,11 @@ package body Tapes is
    end Refusal_Of_Header;
 
    --  "Op 1..11, code 0..13, running and released 0..31."  "Any other op 0
-   --  is Record."  "Operand bytes and value may hold anything."
+   --  is Record."  "Operand bytes and value may hold anything."  "Tape ops run
+   --  to 15" (change request 6).
    function Refusal_Of_Command (Bytes : Record_Bytes) return Code is
      (if Bytes (Mark'Range) = Mark
-        and then Bytes (At_Op) in 1 .. 11
+        and then Bytes (At_Op) in 1 .. 15
         and then Bytes (At_Number) <= 13
         and then Bytes (At_Running) <= 31
         and then Bytes (At_Released) <= 31
@@ -80,7 +81,8 @@ package body Tapes is
    function Answer_Of (F : Fields) return Answer is
      ((Number   => Code (F.Number),
        Running  => Task_Id (F.Running),
-       Released => Task_Id (F.Released)));
+       Released => Task_Id (F.Released),
+       Failed   => False));
 
    function Fields_Of (C : Command; Result : Answer) return Fields is
      ((Op       => Octet (C.Op),

@@ -41,13 +41,14 @@ package Tapes is
    function Command_Of (F : Fields) return Command is
      ((Natural (F.Op), Natural (F.A), Natural (F.B), F.Value));
 
-   --  The answer that a command record holds.
+   --  The answer that a command record holds: no exception, "Records do not
+   --  carry it" (change request 6).
    function Answer_Of (F : Fields) return Answer
      with Pre => Refusal_Of_Command (Bytes_Of (F)) = Accepted;
 
    --  The record of a command and its answer.
    function Fields_Of (C : Command; Result : Answer) return Fields
-     with Pre => C.Op in Op_Create .. Op_Done
+     with Pre => C.Op in Op_Create .. Last_Op
                  and then C.A <= 255 and then C.B <= 255;
 
 end Tapes;

@@ -101,11 +101,13 @@ package body Torn_Inputs is
 
    --  Any record of the right form, whatever the rules would answer; in most
    --  values that are drawn no byte is like another.
-   function Some_Record (Most_Operand : Octet := 255) return Record_Bytes is
+   function Some_Record
+     (Most_Operand : Octet := 255; Most_Op : Octet := 15) return Record_Bytes
+   is
       Bytes : Record_Bytes := (others => 0);
    begin
       Bytes (0 .. 1) := Mark;
-      Bytes (2) := 1 + Up_To (10);
+      Bytes (2) := 1 + Up_To (Most_Op - 1);
       Bytes (3) := Up_To (Most_Operand);
       Bytes (4) := Up_To (Most_Operand);
       Bytes (5) := Up_To (13);
@@ -122,13 +124,16 @@ package body Torn_Inputs is
    --  A record that holds the beginning of another, whose rest is the
    --  beginning of the next record: so two rows of records stand one within
    --  the other, and both are read if they are begun.  With the mark and the
-   --  bounds in their places this can be at bytes 3, 8 and 13 only.
+   --  bounds in their places this can be at bytes 3, 8 and 13 only, and at 3
+   --  and 13 the op of one stands where the other has its code.
    subtype Inside is Natural
      with Static_Predicate => Inside in 3 | 8 | 13;
 
    function Nested_Record (Offset : Inside) return Record_Bytes is
-      Outer : Record_Bytes := Some_Record (Most_Operand => 31);
-      Inner : constant Record_Bytes := Some_Record (Most_Operand => 31);
+      Outer : Record_Bytes :=
+        Some_Record (Most_Operand => 31, Most_Op => 13);
+      Inner : constant Record_Bytes :=
+        Some_Record (Most_Operand => 31, Most_Op => 13);
    begin
       Outer (Offset .. 15) := Inner (0 .. 15 - Offset);
       return Outer;

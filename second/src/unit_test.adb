@@ -1,6 +1,8 @@
 --  What text cannot reach: unknown ops, unused operands, a state in which
---  another task holds the object, "Wakes left", a clock too near its end for
---  the generator.  Expected values are taken from document 01 by hand.
+--  another task holds the object, one in which the runner, a sleeper or a
+--  waiter has a pending exception, "Wakes left", a clock too near its end for
+--  the generator.  Expected values are taken from document 01 and change
+--  request 6 by hand.
 
 with Ada.Command_Line;
 with Byte_IO;   use Byte_IO;
@@ -52,8 +54,9 @@ procedure Unit_Test is
       M : State := Small_System;
    begin
       for Round in 1 .. 2 loop
-         for Op in 12 .. 300 loop
+         for Op in 16 .. 300 loop
             Check_Step ("unknown op", M, (Op, 0, 0, 0), Out_Of_Range);
+            Check_Step ("unknown op, a", M, (Op, 1, 0, 0), Out_Of_Range);
          end loop;
          Check_Step ("op 0", M, (0, 0, 0, 0), Out_Of_Range);
          Check_Step ("create value", M, (1, 3, 3, 1), Out_Of_Range);
@@ -78,6 +81,14 @@ procedure Unit_Test is
          Check_Step ("done b, high", M, (11, 1, 256, 0), Out_Of_Range);
          Check_Step ("done value", M, (11, 1, 0, 1), Out_Of_Range);
          Check_Step ("done b and value", M, (11, 1, 1, 1), Out_Of_Range);
+         for Op in 12 .. 15 loop
+            Check_Step ("fails a", M, (Op, 0, 0, 0), Out_Of_Range);
+            Check_Step ("fails a, high", M, (Op, 257, 0, 0), Out_Of_Range);
+            Check_Step ("fails b", M, (Op, 1, 2, 0), Out_Of_Range);
+            Check_Step ("fails b, high", M, (Op, 1, 256, 0), Out_Of_Range);
+            Check_Step ("fails value", M, (Op, 1, 0, 1), Out_Of_Range);
+         end loop;
+         Check_Step ("failf b", M, (13, 1, 1, 0), Out_Of_Range);
          if Round = 1 then
             Must (M, Op_Start, 0, 0);
          end if;
@@ -102,6 +113,88 @@ procedure Unit_Test is
       M.Objects (2).Ceiling := 8;
       Check_Step ("Ceiling first", M, (Op_Open, 2, 0, 0), Ceiling);
    end Test_Held;
+
+   --  A step: its number, its running task, and whether it shows an exception.
+   procedure Check_Shown
+     (Name    : String;
+      M       : in out State;
+      C       : Command;
+      Number  : Code;
+      Runner  : Task_Id;
+      Failed  : Boolean)
+   is
+      Result : Answer;
+   begin
+      Step (M, C, Result);
+      Check (Name & ", code", Ticks (Result.Number), Ticks (Number));
+      Check (Name & ", running", Ticks (Result.Running), Ticks (Runner));
+      Check (Name & ", exception", Boolean'Pos (Result.Failed),
+             Boolean'Pos (Failed));
+   end Check_Shown;
+
+   --  From the fresh machine a runner never has a pending exception between
+   --  two steps: the answer that named it has cleared it.  Nor does one that
+   --  sleeps or waits: it ran before.  So the states are forged, from this one:
+   --  task 1 runs, task 2 waits on object 2, which task 1 holds if Inside.
+   function Waited_On (Inside : Boolean; Owes : Task_Id) return State is
+      M : State := Small_System;
+   begin
+      Must (M, Op_Start, 0, 0);
+      Must (M, Op_Entry, 2, 0);
+      if Inside then
+         Must (M, Op_Open, 2, 0);
+      end if;
+      M.Owed (Owes) := True;
+      return M;
+   end Waited_On;
+
+   procedure Test_Pending is
+      M     : State := Waited_On (Inside => False, Owes => 1);
+      Shown : Command := (Op_Advance, 0, 0, 0);
+   begin
+      --  "The first accepted answer": refused ones neither show nor clear.
+      Check_Shown ("Missing", M, (Op_Open, 7, 0, 0), Missing, 1, False);
+      Check_Shown ("Late", M, (Op_Start, 0, 0, 0), Late, 1, False);
+      Check_Shown ("Outside", M, (Op_Failp, 2, 1, 0), Outside, 1, False);
+      Check_Shown ("Range", M, (16, 0, 0, 0), Out_Of_Range, 1, False);
+      Check ("still pending", Boolean'Pos (M.Owed (1)), 1);
+      Check_Shown ("accepted", M, Shown, Accepted, 1, True);
+      Check_Shown ("once", M, Shown, Accepted, 1, False);
+      for Op in 1 .. 4 loop  --  each op that leaves it running shows it
+         Shown := (case Op is
+                      when 1      => (Op_Wake, 0, 0, 0),
+                      when 2      => (Op_Open, 2, 0, 0),
+                      when 3      => (Op_Entry, 2, 1, 0),
+                      when others => (Op_Delay, 0, 0, 0));
+         M := Waited_On (Inside => False, Owes => 1);
+         Check_Shown ("shown by any op", M, Shown, Accepted, 1, True);
+         Check ("cleared", Boolean'Pos (M.Owed (1)), 0);
+      end loop;
+   end Test_Pending;
+
+   --  "An exception for a task with one pending keeps the older."
+   procedure Test_Older is
+      M : State := Waited_On (Inside => True, Owes => 1);
+   begin
+      --  of the closer, which runs on, or does not
+      Check_Shown ("one, at once", M, (Op_Failf, 2, 0, 0), Accepted, 1, True);
+      Check_Shown ("no second", M, (Op_Wake, 0, 0, 0), Accepted, 1, False);
+      M := Waited_On (Inside => True, Owes => 1);
+      Check_Shown ("not yet", M, (Op_Failp, 2, 1, 0), Accepted, 2, False);
+      Check_Shown ("one, later", M, (Op_Delay, 0, 0, 9), Accepted, 1, True);
+      Check_Shown ("no second", M, (Op_Wake, 0, 0, 0), Accepted, 1, False);
+      --  of the waiter, which op 15 releases
+      M := Waited_On (Inside => True, Owes => 2);
+      Check_Shown ("waiter's", M, (Op_Failw, 2, 1, 0), Accepted, 2, True);
+      Check_Shown ("no second", M, (Op_Wake, 0, 0, 0), Accepted, 2, False);
+      --  of a waiter and of a sleeper, which others release
+      M := Waited_On (Inside => True, Owes => 2);
+      Check_Shown ("closep", M, (Op_Closep, 2, 1, 0), Accepted, 2, True);
+      Must (M, Op_Delay, 0, 0, 5);
+      M.Owed (2) := True;
+      Must (M, Op_Advance, 0, 0, 5);
+      Check_Shown ("woken", M, (Op_Wake, 0, 0, 0), Accepted, 2, True);
+   end Test_Older;
 
    procedure Check_Wakes
      (M : State; T : Natural; Number : Code; Wakes : Natural)
@@ -348,6 +441,8 @@ procedure Unit_Test is
 begin
    Test_Range;
    Test_Held;
+   Test_Pending;
+   Test_Older;
    Test_Wakes_Left;
    Test_Draws;
    Test_Draw_Refusals;

@@ -1,13 +1,20 @@
 // The entry point for bench/step: the shipped step over a stream of commands, for C to time.
-ghost use Prim.Native.Nat.{_%_};
+ghost use Prim.Native.Nat.{_%_, _≤_};
 ghost use mathlib.Core.Path.{_≡_};
 ghost use Rattle.kernel_bench.specs.Stream as stream;
 use kernel::Command;
-use kernel::Kernel;
+use kernel_state::State;
+
+// What an exception that is shown adds to an answer's number.
+fn shown(exception: bool) -> u64
+    ensures { λ r. ⌜ (r ≡ stream.shown exception) × (r ≤ 16777216) ⌝ }
+{
+    if exception { 16777216 } else { 0 }
+}
 
 // A number that changes with any answer, on top of what was gathered.
-fn mixed(sum: u64, code: u8, running: u8, released: u8) -> u64
-    ensures { λ r. ⌜ r ≡ stream.mixedOf sum code running released ⌝ }
+fn mixed(sum: u64, code: u8, running: u8, released: u8, exception: bool) -> u64
+    ensures { λ r. ⌜ r ≡ stream.mixedOf sum code running released exception ⌝ }
 {
     let turned = std::num::wrapping_add_u64(
         sum % 576460752303423488 * 31,
@@ -15,7 +22,7 @@ fn mixed(sum: u64, code: u8, running: u8, released: u8) -> u64
     );
     std::num::wrapping_add_u64(
         turned,
-        code as u64 + 256 * (running as u64) + 65536 * (released as u64),
+        code as u64 + 256 * (running as u64) + 65536 * (released as u64) + shown(exception),
     )
 }
 
@@ -33,7 +40,7 @@ pub extern "C" fn bench_run(ops: &[u8], a: &[u8], b: &[u8], values: &[u64], sum:
         (now (values .entry)) sum ⌝ }
 {
     let n = lesser(lesser(ops.len(), a.len()), lesser(b.len(), values.len()));
-    let mut k = Kernel::fresh();
+    let mut k = State::fresh();
     let mut total = sum;
     let mut i = 0;
     while i < n {
@@ -49,10 +56,11 @@ pub extern "C" fn bench_run(ops: &[u8], a: &[u8], b: &[u8], values: &[u64], sum:
             r.answer.code,
             r.answer.running.0,
             r.answer.released.0,
+            r.answer.exception,
         );
         let next = r.next;
         k = next;
         i += 1;
     }
-    std::num::wrapping_add_u64(total, k.clock)
+    std::num::wrapping_add_u64(total, k.kernel.clock)
 }

@@ -1,21 +1,23 @@
 // Cases of the step and of the test of a saved state: a table on standard input, in the file stdin. A line of it is
 //
 //   fresh                the machine at hand is the fresh one
-//   do OP A B VALUE      a command to the machine at hand: it prints code, running, released, the clock, and 1 if the
-//                        state is as it was, else 0
+//   do OP A B VALUE      a command to the machine at hand: it prints code, running, released, 1 if an exception is
+//                        shown, else 0, the clock, and 1 if the state is as it was, else 0
 //   ask TASK             "Wakes left" of the machine at hand: it prints code and count
 //   keep N, take N       the machine at hand is kept as N, 1..4; a kept one is at hand again
-//   each OP A B VALUE    one command to each of the four that are kept: it prints code, running and released of each
-//   put TABLE I VALUE    a cell of the machine at hand is set, which no command does
+//   each OP A B VALUE    one command to each of the four that are kept: it prints code, running, released and the
+//                        exception of each
+//   put TABLE I VALUE    a cell of the machine at hand is set, which no command does; of `pending` bit I
 //   spoil TABLE I VALUE  the same; it prints what is said of that state, and the machine that was kept or taken last is
 //                        at hand again
 //
-// or is passed over. What is said of a state: 1 if it is sound, else 0; code, running and released of `advance 0`, and
-// 1 if the state came back as it was; the code of op 0; code and count of "Wakes left" of task 1. What is printed
+// or is passed over. What is said of a state: 1 if it is sound, else 0; code, running, released and the exception of
+// `advance 0`, and 1 if the state came back as it was; the code of op 0; code and count of "Wakes left" of task 1. What is printed
 // begins with the number of its line in the table. expected.py and host/hostile.c read the same table.
 use kernel::Command;
 use kernel::Kernel;
 use kernel::TaskID;
+use kernel_state::State;
 use numbers::wide;
 
 mod words;
@@ -57,11 +59,13 @@ const WAITER: u64 = 0x776169746572;
 
 const CLOCK: u64 = 0x636c6f636b;
 
+const PENDING: u64 = 0x70656e64696e67;
+
 // The machine at hand, the one that was kept or taken last, and those that are kept: N stands at N mod 4.
 struct Bench {
-    hand: Kernel,
-    last: Kernel,
-    kept: [Kernel; 4],
+    hand: State,
+    last: State,
+    kept: [State; 4],
 }
 
 fn same_times(a: [u64; 32], b: [u64; 32]) -> bool {
@@ -75,7 +79,7 @@ fn same_times(a: [u64; 32], b: [u64; 32]) -> bool {
     true
 }
 
-fn same(j: Kernel, k: Kernel) -> bool {
+fn same_tables(j: Kernel, k: Kernel) -> bool {
     let lines = check::same(&j.ready, &k.ready) & check::same(&j.delayed, &k.delayed);
     let hands = check::same(&j.held, &k.held) & check::same(&j.way, &k.way);
     let set_up = check::same(&j.base, &k.base)
@@ -84,6 +88,12 @@ fn same(j: Kernel, k: Kernel) -> bool {
     let a = j.until;
     let b = k.until;
     lines & hands & set_up & same_times(a, b) & (j.clock == k.clock) & (j.started == k.started)
+}
+
+fn same(s: State, t: State) -> bool {
+    let j = s.kernel;
+    let k = t.kernel;
+    same_tables(j, k) & (s.pending == t.pending)
 }
 
 fn shown(n: u64) {
@@ -105,29 +115,30 @@ fn command(w: Words) -> Command {
     }
 }
 
-// Code, running and released of a command, and the state after it.
-fn answered(k: Kernel, c: Command) -> Kernel {
+// Code, running, released and the exception of a command, and the state after it.
+fn answered(k: State, c: Command) -> State {
     let r = k.step(c);
     shown(r.answer.code as u64);
     shown(r.answer.running.0 as u64);
     shown(r.answer.released.0 as u64);
+    shown(r.answer.exception as u64);
     r.next
 }
 
-fn done(k: Kernel, c: Command) -> Kernel {
+fn done(k: State, c: Command) -> State {
     let next = answered(k, c);
-    shown(next.clock);
+    shown(next.kernel.clock);
     shown_last(same(k, next) as u64);
     next
 }
 
-fn asked(k: Kernel, task: u64) {
+fn asked(k: State, task: u64) {
     let left = k.wakes_left(TaskID((task % 256) as u8));
     shown(left.code as u64);
     shown_last(left.left as u64);
 }
 
-fn each(kept: [Kernel; 4], c: Command) {
+fn each(kept: [State; 4], c: Command) {
     let first = kept[1];
     let second = kept[2];
     let third = kept[3];
@@ -138,7 +149,8 @@ fn each(kept: [Kernel; 4], c: Command) {
     let r = fourth.step(c);
     shown(r.answer.code as u64);
     shown(r.answer.running.0 as u64);
-    shown_last(r.answer.released.0 as u64);
+    shown(r.answer.released.0 as u64);
+    shown_last(r.answer.exception as u64);
 }
 
 fn prints(word: u64) -> bool {
@@ -146,7 +158,7 @@ fn prints(word: u64) -> bool {
 }
 
 // What is said of a state.
-fn said(k: Kernel) {
+fn said(k: State) {
     shown(k.sound() as u64);
     let next = answered(
         k,
@@ -169,7 +181,7 @@ fn said(k: Kernel) {
 }
 
 // A cell is set. (A place that a table does not have is one that it has.)
-fn put(k: Kernel, table: u64, at: u64, value: u64) -> Kernel {
+fn put_cell(k: Kernel, table: u64, at: u64, value: u64) -> Kernel {
     let mut next = k;
     let t = (at % 32) as usize;
     let o = (at % 8) as usize;
@@ -189,8 +201,29 @@ fn put(k: Kernel, table: u64, at: u64, value: u64) -> Kernel {
     next
 }
 
+// Bit `at` of what is pending is that of the value.
+fn put_bit(pending: u32, at: u64, value: u64) -> u32 {
+    let bit = 1u32 << (at % 32);
+    if value % 2 == 1 {
+        pending | bit
+    } else {
+        pending & !bit
+    }
+}
+
+fn put(s: State, table: u64, at: u64, value: u64) -> State {
+    let mut next = s;
+    if table == PENDING {
+        next.pending = put_bit(s.pending, at, value);
+        return next;
+    }
+    let k = s.kernel;
+    next.kernel = put_cell(k, table, at, value);
+    next
+}
+
 impl Bench {
-    fn with(self, k: Kernel) -> Bench {
+    fn with(self, k: State) -> Bench {
         let mut next = self;
         next.hand = k;
         next
@@ -235,7 +268,7 @@ impl Bench {
         let kept = self.kept;
         let word = w.word;
         match word {
-            FRESH => self.with(Kernel::fresh()),
+            FRESH => self.with(State::fresh()),
             DO => self.with(done(k, command(w))),
             PUT => self.with(put(k, w.a, w.b, w.c)),
             KEEP => self.kept(w.a),
@@ -265,7 +298,7 @@ fn byte() -> u64 {
 }
 
 fn main() {
-    let k = Kernel::fresh();
+    let k = State::fresh();
     let mut bench = Bench {
         hand: k,
         last: k,

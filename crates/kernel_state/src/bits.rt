@@ -15,7 +15,7 @@ fn bit(t: u8) -> u32
 }
 
 // Whether task t has one pending. What is no task has none.
-pub fn has(pending: u32, t: u8) -> bool
+pub(crate) fn has(pending: u32, t: u8) -> bool
     ensures { λ r. ⌜ r ≡ has pending t ⌝ }
 {
     if 31 < t {
@@ -25,7 +25,7 @@ pub fn has(pending: u32, t: u8) -> bool
 }
 
 // One more, for task t. For nobody, and for what is no task, none is set; and one that is pending stays as it is.
-pub fn set_for(pending: u32, t: u8) -> u32
+pub(crate) fn set_for(pending: u32, t: u8) -> u32
     ensures { λ r. ⌜ r ≡ set-for pending t ⌝ }
 {
     if 31 < t {
@@ -38,7 +38,7 @@ pub fn set_for(pending: u32, t: u8) -> u32
 }
 
 // That of task t is pending no more.
-pub fn cleared(pending: u32, t: u8) -> u32
+pub(crate) fn cleared(pending: u32, t: u8) -> u32
     ensures { λ r. ⌜ r ≡ cleared pending t ⌝ }
 {
     if !has(pending, t) {

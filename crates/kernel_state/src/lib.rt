@@ -2,11 +2,13 @@
 // tables; what it does to the exceptions is settled by its answer.
 ghost use mathlib.Core.Path.{_≡_};
 ghost use Rattle.rules.specs.Kinds.{kind};
-ghost use Rattle.rules_exceptions.specs.Exceptions.{whose-of, task-of};
+ghost use Rattle.rules_exceptions.specs.Exceptions.{whose-of, task-of, fresh};
 ghost use Rattle.kernel.specs.Public.{to-rules};
 ghost use Rattle.kernel_state.specs.Settle.{settled};
+ghost use Rattle.kernel_state.specs.Public.{encode, isSound, stepOf, leftOf, report, shape};
 use kernel::Command;
 use kernel::Kernel;
+use kernel::Left;
 use kernel::TaskID;
 use kernel_checks::Kind;
 use kernel_checks::Whose;
@@ -80,5 +82,83 @@ pub fn settle(pending: u32, w: Whose, closer: TaskID, answer: kernel::Answer) ->
     Settled {
         pending: bits::cleared(told, running.0),
         exception: bits::has(told, running.0),
+    }
+}
+
+impl State {
+    // The fresh machine, and no exception pending.
+    pub fn fresh() -> State
+        ensures { λ r. ⌜ r ≡ encode fresh ⌝ }
+    {
+        State {
+            kernel: Kernel::fresh(),
+            pending: 0,
+        }
+    }
+
+    // The tables are those of a sound machine, and what is pending is of its created tasks, after Start.
+    pub fn sound(self) -> bool
+        ensures { λ r. ⌜ r ≡ isSound self ⌝ }
+    {
+        let kernel = self.kernel;
+        let base = kernel.base;
+        let tables = kernel.sound();
+        tables & pending_sound(&base, kernel.started, self.pending)
+    }
+
+    // Shape: 1, 0, 0, no exception, and the state as it is.
+    fn refused(self) -> Stepped
+        ensures { λ r. ⌜ r ≡ report self shape ⌝ }
+    {
+        let answer = Answer {
+            code: 1,
+            running: TaskID(0),
+            released: TaskID(0),
+            exception: false,
+        };
+        Stepped { next: self, answer }
+    }
+
+    // A state that is not sound is answered 1, 0, 0 and comes back as it is; a refused command its number and the same
+    // state.
+    pub fn step(self, c: Command) -> Stepped
+        ensures { λ r. ⌜ r ≡ stepOf self (to-rules c) ⌝ }
+    {
+        let kernel = self.kernel;
+        let base = kernel.base;
+        if !pending_sound(&base, kernel.started, self.pending) {
+            return self.refused();
+        }
+        let ready = kernel.ready;
+        let closer = kernel_ready::runner(&ready);
+        let stepped = kernel.step(c);
+        let said = stepped.answer;
+        let s = settle(self.pending, whose(c), closer, said);
+        let running = said.running;
+        let released = said.released;
+        let behind = stepped.next;
+        let next = State {
+            kernel: behind,
+            pending: s.pending,
+        };
+        let answer = Answer {
+            code: said.code,
+            running,
+            released,
+            exception: s.exception,
+        };
+        Stepped { next, answer }
+    }
+
+    // "Wakes left" of a task, as Kernel::wakes_left has it.
+    pub fn wakes_left(self, t: TaskID) -> Left
+        ensures { λ r. ⌜ r ≡ leftOf self (t .0) ⌝ }
+    {
+        let kernel = self.kernel;
+        let base = kernel.base;
+        if !pending_sound(&base, kernel.started, self.pending) {
+            return Left { code: 1, left: 0 };
+        }
+        kernel.wakes_left(t)
     }
 }

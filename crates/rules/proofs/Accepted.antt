@@ -243,7 +243,7 @@ releases m c (Ending e) = go (e .serves) refl
     go false s = nobody (rw s)
 
 -- A rule over all ops holds where it holds of those of the table, and of what is no op.
-each-op : (f : ℕ → Kind → Bool) → all-below (suc last-op) (λ n. f n (kind-at n)) ≡ true → ((n : ℕ) → f n NoKind ≡ true) → (op : ℕ) → f op (kind-at op) ≡ true
+pub each-op : (f : ℕ → Kind → Bool) → all-below (suc last-op) (λ n. f n (kind-at n)) ≡ true → ((n : ℕ) → f n NoKind ≡ true) → (op : ℕ) → f op (kind-at op) ≡ true
 each-op f known other op = go (ltb op (suc last-op)) refl
   where
     go : (b : Bool) → ltb op (suc last-op) ≡ b → f op (kind-at op) ≡ true

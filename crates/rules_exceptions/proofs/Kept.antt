@@ -67,6 +67,14 @@ tests-state s =
     tests-map (λ w. record { machine = w .0; pending = w .1 }) (λ w. (w .machine, w .pending))
     (tests-and (tests-sound (s .machine)) (tests-pending (s .machine .started) (s .machine .base) (s .pending)))
 
+-- idle has none pending
+pub idle-none : {s : State} → Sounds s → has (s .pending) 0 ≡ false
+idle-none {s} k = go (has (s .pending) 0) refl
+  where
+    go : (b : Bool) → has (s .pending) 0 ≡ b → has (s .pending) 0 ≡ false
+    go true e = absurd (k .pending .whose 0 e .1 refl)
+    go false e = e
+
 -- Whom an accepted command sets one for: of a started machine, and a task that stands somewhere in it.
 module _ (m : Machine) (s : Sound m) (c : Command) where
   pub released-stands : released m c ≢ 0 → 1 ≤ standings m (released m c)

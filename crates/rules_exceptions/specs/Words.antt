@@ -28,3 +28,13 @@ pub data Unshown (t : ℕ) (s : State) (cs : List Command) : Type 0 where
   from-start : has (s .pending) t ≡ true → Silent t s cs → Unshown t s cs
   set-by : (before : List Command) (c : Command) (between : List Command) → cs ≡ before ++ (c ∷ between)
       → sets (run s before) c t ≡ true → Silent t (run s before) (c ∷ between) → Unshown t s cs
+
+-- The second of the two by itself: it was set by one of the commands.
+abbrev pub SetUnshown : ℕ → State → List Command → Type 0
+SetUnshown t s cs =
+    (before : List Command) ×
+    (c : Command) ×
+    (between : List Command) ×
+    (cs ≡ before ++ (c ∷ between)) ×
+    (sets (run s before) c t ≡ true) ×
+    Silent t (run s before) (c ∷ between)

@@ -12,7 +12,7 @@ use Rattle.kernel_bench.proofs.bench_run.Tie as tie
 abbrev Inv-loop : tie.InvT-loop
 Inv-loop ops a b values sum n k₀ total₀ i₀ k total i =
     (i ≤ n) × (n ≤ length ops) × (n ≤ length a) × (n ≤ length b) × (n ≤ length values) × (n ≡ countOf ops a b values)
-    × (k ≡ ranOf ops a b values sum i .kernel) × (total ≡ ranOf ops a b values sum i .total)
+    × (k ≡ ranOf ops a b values sum i .state) × (total ≡ ranOf ops a b values sum i .total)
 
 abbrev μ-loop : tie.MeasureT-loop
 μ-loop ops a b values sum n k₀ total₀ i₀ k total i = n - i

@@ -21,11 +21,17 @@ mul-wrapping-add-u64-3 c = search needs
 add-wrapping-add-u64-2 : tie.Need-add-wrapping-add-u64-2
 add-wrapping-add-u64-2 c = search needs
 
+shown-requires : tie.Need-shown-requires
+shown-requires c κs = search needs
+
+add-wrapping-add-u64-3 : tie.Need-add-wrapping-add-u64-3
+add-wrapping-add-u64-3 c = search needs
+
 wrapping-add-u64-requires-2 : tie.Need-wrapping-add-u64-requires-2
 wrapping-add-u64-requires-2 c κs = search needs
 
 returns : tie.Need-returns
-returns c = rw (c .wrapping-add-u642 .ensures, c .before .wrapping-add-u64 .ensures)
+returns c = rw (c .wrapping-add-u642 .ensures, c .before .shown .ensures .0, c .before .before .wrapping-add-u64 .ensures)
 
 pub mixed-spec : {M : Type 1} → statement M
 mixed-spec =
@@ -37,5 +43,7 @@ mixed-spec =
     add-wrapping-add-u64
     mul-wrapping-add-u64-3
     add-wrapping-add-u64-2
+    shown-requires
+    add-wrapping-add-u64-3
     wrapping-add-u64-requires-2
     returns)
