@@ -13,7 +13,7 @@ use Rattle.kernel_state.specs.declared.Settled.{Settled}
 use Rattle.kernel_state.specs.Settle.{settled}
 use Rattle.image_form.specs.Layout.{imageBytes, pendingOf}
 
-abbrev pub settledIn : List ℕ → Command → Answer → Settled
+unfoldable pub settledIn : List ℕ → Command → Answer → Settled
 settledIn s c a =
     cond (eqb (length s) imageBytes) (settled (pendingOf s) (whose-of (kind c)) (getD s 64 0) a)
     (record { pending = 0; exception = false })

@@ -2,10 +2,12 @@
 use lib.ListN.{length}
 use borrow.Author.Tests.{eq-eqb, ne-eqb}
 use borrow.Author.Needs.{needs}
+use Rattle.image_layout.specs.Settled.{settledIn}
 use Rattle.image_layout.proofs.settled.Statement.{statement}
 use Rattle.image_layout.proofs.settled.Tie as tie
 
 returns : tie.Need-returns
+unfolding settledIn
 returns c = rw (ne-eqb (length (c .before .before .args .s .now)) 512 (c .if1 .taken))
 
 pending-at-requires : tie.Need-pending-at-requires
@@ -21,6 +23,7 @@ settle-requires : tie.Need-settle-requires
 settle-requires c κs = search needs
 
 returns-2 : tie.Need-returns-2
+unfolding settledIn
 returns-2 c =
     let asked = c .before .before in
     let reading = asked .before in
