@@ -25,6 +25,7 @@ use Rattle.kernel_state.specs.Public as whole
 use Rattle.kernel_state.proofs.Steps.{together, settles, left-sound}
 use Rattle.generator.specs.declared.Profile.{Profile}
 use Rattle.generator.specs.declared.Drawn.{Drawn}
+use Rattle.generator.specs.declared.Carried.{Carried}
 use Rattle.generator.specs.Public.{drawnOf, refusedOf, behindDraw, answerTo, carriedOf}
 use Rattle.generator_evenly.specs.declared.Drawn as counted
 use Rattle.generator_evenly.specs.Public.{bare}
@@ -139,7 +140,7 @@ module _ {d : Command} (s : List ℕ) (c : Command) (fits : d ≡ fitted c) wher
       ∙ ap (λ (r : whole-stepped.Stepped). cond (isImage s && eqb (r .answer .code) 0) (imageOf (r .next)) s) (fitted-step (stateOf s) c)
 
 -- tables and answers that are the same
-pub same-left : {t u : Kernel} {a b : Answer} (s : List ℕ) (c : Command) → t ≡ u → a ≡ b → imageLeft s t c a ≡ imageLeft s u c b
+same-left : {t u : Kernel} {a b : Answer} (s : List ℕ) (c : Command) → t ≡ u → a ≡ b → imageLeft s t c a ≡ imageLeft s u c b
 same-left {t = t} {b = b} s c e f = ap (imageLeft s t c) f ∙ ap (λ (j : Kernel). imageLeft s j c b) e
 
 pub same-carried : {d e : Drawn} {a b : Answer} → d ≡ e → a ≡ b → carriedOf d a ≡ carriedOf e b
@@ -255,6 +256,21 @@ drawn-so s seed p = go (readable s) refl
     go : (b : Bool) → readable s ≡ b → drawnRead s seed p .drawn ≡ drawOn s seed p
     go true h = rw h (answered-draw s seed p h)
     go false h = rw h (none-draw s seed p h)
+
+-- What is drawn and answered, r, goes out as q does that is the same.
+module _ {r q : Carried} (s : List ℕ) (same : r ≡ q) where
+  pub done-so : {n : ℕ} → n ≡ toldIn s (to-rules (r .drawn .command)) (r .answer)
+      → _≡_ {A = Done} (record { drawn = r .drawn; told = n }) (record { drawn = q .drawn; told = toldIn s (to-rules (q .drawn .command)) (q .answer) })
+  done-so e = made (ap (λ (c : Carried). c .drawn) same) (e ∙ ap (λ (c : Carried). toldIn s (to-rules (c .drawn .command)) (c .answer)) same)
+    where
+      made : {d e : Drawn} {m n : ℕ} → d ≡ e → m ≡ n → _≡_ {A = Done} (record { drawn = d; told = m }) (record { drawn = e; told = n })
+      made p q = cc
+
+  pub kept-so : {t u : Kernel} → t ≡ u
+      → imageLeft s t (to-rules (r .drawn .command)) (r .answer) ≡ imageLeft s u (to-rules (q .drawn .command)) (q .answer)
+  kept-so {t = t} e =
+      ap (λ (c : Carried). imageLeft s t (to-rules (c .drawn .command)) (c .answer)) same
+      ∙ ap (λ (j : Kernel). imageLeft s j (to-rules (q .drawn .command)) (q .answer)) e
 
 -- where the state is read, and a command is drawn
 module _ (s : List ℕ) (seed : ℕ) (p : Profile) (h : readable s ≡ true) where

@@ -22,10 +22,10 @@ returns : tie.Need-returns
 returns c =
     let keeping = c .before .before in
     let stepping = keeping .before .before .before .before .before .before .before .before .before .before in
-    let a = stepping .before .before .before .before .before .before .before .before .before .before .before .before .before .before .args in
-    let fits = stepping .before .command .ensures in
+    let asking = stepping .before .before .before .before .before .before .before .before .before .before .before .before in
+    let a = asking .before .before .args in
     let left = stepping .step-on .ensures in
-    let w = step-ends (a .image .now) _ (told (a .op) (a .a) (a .b) (a .value)) fits (left .0) (left .1) in
+    let w = step-ends (a .image .now) _ (told (a .op) (a .a) (a .b) (a .value)) (asking .command .ensures) (left .0) (left .1) in
     (keeping .keep .ensures .0 ∙ w .0, keeping .keep .ensures .1 ∙ w .1)
 
 pub rvn-step-spec : {M : Type 1} → statement M
