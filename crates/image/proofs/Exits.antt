@@ -41,7 +41,7 @@ use Rattle.image_calls.proofs.Cut.{fitted-step, asked-draw}
 use Rattle.image_calls.proofs.Theorems.{left-alone, left-alone-evenly}
 use Rattle.image_edge.specs.Edge.{shown, toldIn, imageLeft, seedLeft, packedBoth}
 use Rattle.image.specs.declared.Done.{Done}
-use Rattle.image.specs.Tables.{stepRead, drawnRead, behindRead, doneRead, imageRead}
+use Rattle.image.specs.Tables.{stepRead, drawnRead, doneRead, imageRead}
 
 -- Bytes of which no state is read are no image; of others the tables decide.
 unread : (s : List ℕ) → readable s ≡ false → isImage s ≡ false
@@ -103,7 +103,7 @@ module _ (s : List ℕ) (c : Command) (h : readable s ≡ true) where
 
 -- The kernel's step of what is read, sound or not, is what the call answers and leaves.
 module _ (s : List ℕ) (k : Kernel) (c : Command) where
-  pub step-answered : toldIn s c (stepRead s k c .answer) ≡ stepAnswer s c
+  step-answered : toldIn s c (stepRead s k c .answer) ≡ stepAnswer s c
   unfolding stepAnswer
   step-answered = go (readable s) refl (isSound (kernelOf s)) refl
     where
@@ -113,7 +113,7 @@ module _ (s : List ℕ) (k : Kernel) (c : Command) where
       go true h true e = rw (h, image-sound s h, e) (answers-so s c h)
       go true h false e = rw (h, image-sound s h, e, unsound (kernelOf s) c e) (told-1 s (kernelOf s) c)
 
-  pub step-left : imageLeft s (stepRead s k c .next) c (stepRead s k c .answer) ≡ stepImage s c
+  step-left : imageLeft s (stepRead s k c .next) c (stepRead s k c .answer) ≡ stepImage s c
   unfolding stepImage
   step-left = go (readable s) refl (isSound (kernelOf s)) refl
     where
@@ -129,11 +129,11 @@ module _ (s : List ℕ) (k : Kernel) (c : Command) where
 
 -- the step of a command that fits is the step of the command itself
 module _ {d : Command} (s : List ℕ) (c : Command) (fits : d ≡ fitted c) where
-  asked-answer : stepAnswer s d ≡ stepAnswer s c
+  pub asked-answer : stepAnswer s d ≡ stepAnswer s c
   unfolding stepAnswer
   asked-answer = ap (stepAnswer s) fits ∙ ap (λ (r : whole-stepped.Stepped). cond (isImage s) (packed (r .answer)) 1) (fitted-step (stateOf s) c)
 
-  asked-image : stepImage s d ≡ stepImage s c
+  pub asked-image : stepImage s d ≡ stepImage s c
   unfolding stepImage
   asked-image =
       ap (stepImage s) fits
@@ -146,14 +146,10 @@ same-left {t = t} {b = b} s c e f = ap (imageLeft s t c) f ∙ ap (λ (j : Kerne
 pub same-carried : {d e : Drawn} {a b : Answer} → d ≡ e → a ≡ b → carriedOf d a ≡ carriedOf e b
 same-carried p q = cc
 
--- The tables t and the answer a that the step of a command d that fits leaves: in one number, and laid out.
-module _ {t : Kernel} {a : Answer} {d : Command} (s : List ℕ) (k : Kernel) (c : Command) (fits : d ≡ fitted c)
-    (left : t ≡ stepRead s k d .next) (replied : a ≡ stepRead s k d .answer) where
-  pub step-ends : (toldIn s d a ≡ stepAnswer s c) × (imageLeft s t d a ≡ stepImage s c)
-  step-ends = (
-    ap (toldIn s d) replied ∙ (step-answered s k d ∙ asked-answer s c fits),
-    same-left s d left replied ∙ (step-left s k d ∙ asked-image s c fits),
-  )
+-- The tables t and the answer a that the step of a command leaves: in one number, and laid out.
+pub step-ends : {t : Kernel} {a : Answer} (s : List ℕ) (k : Kernel) (c : Command) → t ≡ stepRead s k c .next → a ≡ stepRead s k c .answer
+    → (toldIn s c a ≡ stepAnswer s c) × (imageLeft s t c a ≡ stepImage s c)
+step-ends s k c left replied = (ap (toldIn s c) replied ∙ step-answered s k c, same-left s c left replied ∙ step-left s k c)
 
 -- The question.
 module _ (s : List ℕ) (t : ℕ) where

@@ -100,6 +100,55 @@ fn step_on(
     )
 }
 
+// The same, and what is left of an accepted step is laid out in the image: the answer in one number.
+fn step_and_keep(
+    image: &mut [u8],
+    base: &mut [u8; 32],
+    ready: &mut [u8; 32],
+    delayed: &mut [u8; 32],
+    held: &mut [u8; 32],
+    way: &mut [u8; 32],
+    until: &mut [u64; 32],
+    ceiling: &mut [u8; 8],
+    waiter: &mut [u8; 8],
+    clock: &mut u64,
+    started: &mut bool,
+    c: Command,
+) -> u32
+    ensures { λ r. ⌜ (r ≡ stepAnswer (now (image .entry)) (to-rules c))
+        × (now (image .exit) ≡ stepImage (now (image .entry)) (to-rules c)) ⌝ }
+{
+    let answer = step_on(
+        image,
+        base,
+        ready,
+        delayed,
+        held,
+        way,
+        until,
+        ceiling,
+        waiter,
+        clock,
+        started,
+        c,
+    );
+    keep(
+        image,
+        base,
+        ready,
+        delayed,
+        held,
+        way,
+        until,
+        ceiling,
+        waiter,
+        *clock,
+        *started,
+        c,
+        answer,
+    )
+}
+
 // Steps the machine of an image: the answer is code + 256 * running + 65536 * released, + 16777216 where it shows an
 // exception. A refusal leaves every byte.
 #[no_mangle]
@@ -117,8 +166,7 @@ pub extern "C" fn rvn_step(image: &mut [u8], op: u64, a: u64, b: u64, value: u64
     let mut waiter = [0u8; 8];
     let mut clock = 0;
     let mut started = false;
-    let c = command(op, a, b, value);
-    let answer = step_on(
+    step_and_keep(
         image,
         &mut base,
         &mut ready,
@@ -130,22 +178,7 @@ pub extern "C" fn rvn_step(image: &mut [u8], op: u64, a: u64, b: u64, value: u64
         &mut waiter,
         &mut clock,
         &mut started,
-        c,
-    );
-    keep(
-        image,
-        &base,
-        &ready,
-        &delayed,
-        &held,
-        &way,
-        &until,
-        &ceiling,
-        &waiter,
-        clock,
-        started,
-        c,
-        answer,
+        command(op, a, b, value),
     )
 }
 

@@ -9,7 +9,7 @@ use lib.Dec.{eqb, leb}
 use lib.ListN.{length, replicate, List·getD-eq-default}
 use borrow.Author.Tests.{ne-eqb, lt-leb, leb-false}
 use Rattle.rules.specs.Line.{within}
-use Rattle.rules.specs.Machine.{Machine, Command, running}
+use Rattle.rules.specs.Machine.{Command, running}
 use Rattle.rules.specs.declared.Kind.{Kind}
 use Rattle.rules.specs.declared.Kind.the-variants.{NoKind, Creating, Declaring, Starting, Delaying, Waking, Advancing, Opening, Entering, Ending}
 use Rattle.rules.specs.Kinds.{kinds, kind}

@@ -11,20 +11,20 @@ use lib.ListN.{length, replicate}
 use lib.Dec.{eqb}
 use borrow.Author.Tests.{eq-eqb, ne-eqb, eqb-true, eqb-false}
 use Rattle.rules.specs.Line.{one-if}
+use Rattle.rules.specs.Table.{carry, leave, release}
+use Rattle.rules.specs.Run as R
 use Rattle.rules.specs.Machine.{Machine, Command}
-use Rattle.rules.specs.Machine as rules
-use Rattle.rules.specs.Refusals.{first-number}
-use Rattle.rules.specs.Run as rules-run
+use Rattle.rules.specs.Refusals.{first-number, refusal}
 use Rattle.rules.proofs.Words.{All}
 use Rattle.rules.proofs.Lists.{all-set}
 use Rattle.rules.proofs.Tests.{both-true}
 use Rattle.rules.proofs.Sounds.{tests-sound}
-use Rattle.rules.proofs.Step as rules-step
 use Rattle.rules.proofs.Walk.{set-up}
+use Rattle.rules.proofs.Script.{create, object, start, delay, wake, advance, open′, failp}
 use Rattle.rules_exceptions.specs.Exceptions.{State, next, answer, run, fresh, sound}
 use Rattle.rules_exceptions.specs.Exceptions as told-by
-use Rattle.rules_exceptions.proofs.Kept.{Sounds, tests-state, run-sound, fresh-sound}
-use Rattle.rules_exceptions.proofs.Theorems.{runs-alike}
+use Rattle.rules_exceptions.proofs.Kept.{tests-state, run-sound, fresh-sound}
+use Rattle.rules_exceptions.proofs.Theorems.{runs-alike, step-keeps-sound}
 use Rattle.kernel.specs.declared.Kernel.{Kernel}
 use Rattle.kernel.specs.View.{times}
 use Rattle.kernel.specs.View as K
@@ -50,7 +50,7 @@ use Rattle.generator_evenly.specs.declared.Drawn as counted
 use Rattle.generator_evenly.specs.Public.{bare}
 use Rattle.generator_evenly.specs.Public as evenly
 use Rattle.generator_evenly.proofs.Shipped as evenly-shipped
-use Rattle.image_form.specs.Layout.{imageOf, kernelOf, stateOf, clean, formed, isImage}
+use Rattle.image_form.specs.Layout.{spare, imageOf, part, kernelOf, stateOf, clean, formed, isImage}
 use Rattle.image_calls.specs.Calls.{told, packed, stepAnswer, stepImage, freshAnswer, freshImage}
 use Rattle.image_calls.specs.Calls.{toldProfile, drawOn, packedDrawn, drawAnswer, drawSeed, drawValue, drawStepAnswer, drawStepImage}
 use Rattle.image_calls.specs.Calls.{drawEvenOn, packedEven, drawEvenAnswer, drawEvenSeed, drawEvenValue}
@@ -177,6 +177,28 @@ refusal-shows-none s c = go (isImage s) refl
         let none : one-if (a .exception) ≡ 0 = ap one-if (refused-keeps (stateOf s) c k (λ z. n (u .0 ∙ z)) .1) in
         omega (arith, none, w .0, w .1, w .2)
     go false e n = omega arith
+
+-- ## An exception that waits, and is shown: by computing
+-- 24 holds object 1 when 21, above it, wakes; it ends its body by an exception, and so 21 runs. The answer (256 * 21) shows none; bit 24 stands in the image,
+-- in byte 195. When 21 sleeps again 24 runs: that answer (16777216 + 256 * 24) shows it, and it is pending no more.
+-- Rules out: bytes of the number turned round, in writing and in reading alike; a bit of the next task.
+abbrev until-woken : List Command
+until-woken = create 21 3 ∷ create 24 1 ∷ object 1 12 ∷ start ∷ delay 90 ∷ open′ 1 ∷ advance 90 ∷ wake ∷ []
+
+pub shown-there : let s = imageOf (encode (run fresh until-woken)) in let t = stepImage s (failp 1 1) in
+    (stepAnswer s (failp 1 1) ≡ 5376) × (part 32 192 t ≡ 0 ∷ 0 ∷ 0 ∷ 1 ∷ replicate 28 0)
+    × (stepAnswer t (delay 300) ≡ 16783360) × (part 32 192 (stepImage t (delay 300)) ≡ spare)
+unfolding imageOf encode K.encode answer next run R.next R.released refusal carry leave release
+shown-there =
+    let m = run fresh until-woken in
+    let e = tests-state m .found (run-sound until-woken fresh fresh-sound) in
+    let w = steps-machine m (failp 1 1) e in
+    let v = steps-machine (next m (failp 1 1)) (delay 300) (step-keeps-sound m (failp 1 1) e) in (
+      w .0,
+      ap (part 32 192) (w .1),
+      ap (λ (s : List ℕ). stepAnswer s (delay 300)) (w .1) ∙ v .0,
+      ap (λ (s : List ℕ). part 32 192 (stepImage s (delay 300))) (w .1) ∙ ap (part 32 192) (v .1),
+    )
 
 -- ## The fresh machine's image, whatever the 512 bytes held
 pub fresh-reads : (s : List ℕ) → length s ≡ 512 → (freshAnswer s ≡ 0) × (isImage (freshImage s) ≡ true) × (stateOf (freshImage s) ≡ encode fresh)
@@ -435,7 +457,8 @@ module _ (s : List ℕ) (seed span : ℕ) (weights : List ℕ) (value : ℕ) whe
       let w = made-evenly e in
       let small = bytes-evenly e in
       let u = unpacked-draw (bare found-evenly) (omega (arith, w .2)) (small .0) (small .1) in
-      let accepted = same-code (stateOf s) _ (image-sound s (w .0)) ∙ evenly-shipped.drawn-accepted (kernelOf s) seed (toldProfile span weights) (code-there e) in
+      let accepted = same-code (stateOf s) _ (image-sound s (w .0))
+      ∙ evenly-shipped.drawn-accepted (kernelOf s) seed (toldProfile span weights) (code-there e) in
       rw (draw-even-apart e .0, u .1, u .2, u .3, eq-eqb (found-evenly .code) 0 (w .2), w .0, w .1) (omega (arith, accepted))
 
   -- ## The draws spent are told truly: the seed left is the draw applied that often, 3 to 24 times

@@ -4,7 +4,7 @@ use Prim.Native.Nat.{ℕ, _<_, _^_}
 use native.Mathlib.Omega.{arith}
 use mathlib.Core.Path.{_≡_, refl, sym, ap, _∙_}
 use mathlib.Core.Logic.{_≢_}
-use mathlib.Core.Bool.{Bool, true, false, cond, _&&_}
+use mathlib.Core.Bool.{Bool, true, false, cond}
 use mathlib.Core.List.{List, [], _∷_}
 use lib.Dec.{eqb}
 use borrow.Author.Tests.{eqb-true, eqb-false}
@@ -27,11 +27,10 @@ use Rattle.kernel.specs.declared.Kernel.{Kernel}
 use Rattle.kernel.specs.View as K
 use Rattle.kernel.specs.Public as P
 use Rattle.kernel.proofs.Round as round
-use Rattle.kernel.proofs.Written.{Stands, stands}
+use Rattle.kernel.proofs.Written.{stands}
 use Rattle.kernel.proofs.Written as tables
 use Rattle.kernel_state.specs.declared.State.{State}
-use Rattle.kernel_state.specs.declared.Answer.{Answer}
-use Rattle.kernel_state.specs.Public.{view, encode, isSound, report, shape, stepOf}
+use Rattle.kernel_state.specs.Public.{view, encode, isSound, report, stepOf}
 use Rattle.kernel_state.proofs.Steps.{sound-parts, settles}
 
 made : {m n : Machine} {p : ℕ} → m ≡ n → _≡_ {A = X.State} (record { machine = m; pending = p }) (record { machine = n; pending = p })
@@ -69,7 +68,9 @@ module _ (s : X.State) (h : sound s ≡ true) where
 
   pub encode-sound : isSound (encode s) ≡ true
   unfolding encode K.encode
-  encode-sound = sound-parts (K.encode (s .machine)) (s .pending) ∙ rw (tables.encode-sound (s .machine) (held .machine), tests-pending _ _ _ .found (held .pending))
+  encode-sound =
+      sound-parts (K.encode (s .machine)) (s .pending)
+      ∙ rw (tables.encode-sound (s .machine) (held .machine), tests-pending _ _ _ .found (held .pending))
 
   pub view-encode : view (encode s) ≡ s
   unfolding encode view
@@ -84,7 +85,8 @@ pub step-sound : (st : State) (c : Command) → isSound st ≡ true → isSound 
 unfolding stepOf
 step-sound st c e = rw e (encode-sound (next (view st) c) (exceptions.step-keeps-sound (view st) c (machine-sound st e)))
 
-pub refused-keeps : (st : State) (c : Command) → isSound st ≡ true → stepOf st c .answer .code ≢ 0 → (stepOf st c .next ≡ st) × (stepOf st c .answer .exception ≡ false)
+pub refused-keeps : (st : State) (c : Command) → isSound st ≡ true → stepOf st c .answer .code ≢ 0
+    → (stepOf st c .next ≡ st) × (stepOf st c .answer .exception ≡ false)
 unfolding stepOf
 refused-keeps st c e = rw e (λ n. (let w = exceptions.refused-keeps (view st) c n in (ap encode (w .0) ∙ written-back st e, w .1)))
 

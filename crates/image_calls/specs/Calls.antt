@@ -33,8 +33,8 @@ fitted c = cond (leb (c .op) 255 && leb (c .a) 255 && leb (c .b) 255) c (told 0 
 abbrev pub fittedTask : ℕ → ℕ
 fittedTask t = cond (leb t 255) t 0
 
--- An answer in one number: what a record keeps of it, code + 256 * running + 65536 * released, + 16777216 where it shows
--- an exception. Shape is 1, 0, 0, and shows none: so 1.
+-- An answer in one number: what a record keeps of it, code + 256 * running + 65536 * released, and 16777216 more where
+-- it shows an exception. Shape is 1, 0, 0, and shows none: so 1.
 abbrev pub packed : Answer → ℕ
 packed a =
     Kept.packed (record { code = a .code; running = a .running; released = a .released })

@@ -68,7 +68,7 @@ pub made : {a a′ b b′ c c′ d d′ e e′ f f′ g g′ h h′ : List ℕ} 
     (record { base = a′; ready = b′; delayed = c′; held = d′; way = e′; until = f′; ceiling = g′; waiter = h′; clock = n′; started = o′ })
 made p q r s t u v w x y = cc
 
-pub made-state : {k k′ : Kernel} {p p′ : ℕ} → k ≡ k′ → p ≡ p′ → _≡_ {A = State} (record { kernel = k; pending = p }) (record { kernel = k′; pending = p′ })
+made-state : {k k′ : Kernel} {p p′ : ℕ} → k ≡ k′ → p ≡ p′ → _≡_ {A = State} (record { kernel = k; pending = p }) (record { kernel = k′; pending = p′ })
 made-state e f = cc
 
 -- of tables of their sizes, whose numbers are of 64 bits, and pending exceptions of 32 bits
@@ -83,11 +83,12 @@ module _ (st : State) (z : Sizes (st .kernel)) where
   -- the image as its parts, each with what follows it
   spelt : imageOf st
       ≡ le8 (k .clock) ++ (flags (k .started)
-      ++ (k .ceiling ++ (k .waiter ++ (k .base ++ (k .ready ++ (k .delayed ++ (k .held ++ (k .way ++ (exceptions (st .pending) ++ (spare ++ bytesOf (k .until)))))))))))
+      ++ (k .ceiling ++ (k .waiter ++ (k .base ++ (k .ready ++ (k .delayed ++ (k .held ++ (k .way
+      ++ (exceptions (st .pending) ++ (spare ++ bytesOf (k .until)))))))))))
   unfolding imageOf
   spelt =
-      regrouped (le8 (k .clock)) (flags (k .started)) (k .ceiling) (k .waiter) (k .base) (k .ready) (k .delayed) (k .held) (k .way) (exceptions (st .pending)) spare
-      (bytesOf (k .until))
+      regrouped (le8 (k .clock)) (flags (k .started)) (k .ceiling) (k .waiter) (k .base) (k .ready) (k .delayed) (k .held) (k .way) (exceptions (st .pending))
+      spare (bytesOf (k .until))
 
   pub image-back : k .clock < 2 ^ 64 → All (λ x. x < 2 ^ 64) (k .until) → st .pending < 2 ^ 32 → (stateOf (imageOf st) ≡ st) × (clean (imageOf st) ≡ true)
   unfolding kernelOf pendingOf clean
@@ -108,8 +109,8 @@ module _ (st : State) (z : Sizes (st .kernel)) where
       let clock : ofLe s 0 ≡ k .clock = ap (λ (l : List ℕ). ofLe l 0) spelt ∙ value-back (k .clock) c in
       let flag : getD s 8 0 ≡ one-if (k .started) = ap (λ (l : List ℕ). getD l 8 0) spelt in
       let rest : part 7 9 s ≡ replicate 7 0 = ap (part 7 9) spelt in
-      let byte : (i : ℕ) → getD s (192 + i) 0 ≡ getD (drop 192 s) i 0 = λ i. sym (getD-drop 192 s i 0) in
-      let cell : (i : ℕ) → getD s (192 + i) 0 ≡ getD (exceptions (st .pending) ++ (spare ++ bytesOf (k .until))) i 0 = λ i. byte i ∙ ap (λ (l : List ℕ). getD l i 0) to-192 in
+      let cell : (i : ℕ) → getD s (192 + i) 0 ≡ getD (exceptions (st .pending) ++ (spare ++ bytesOf (k .until))) i 0 =
+      λ i. sym (getD-drop 192 s i 0) ∙ ap (λ (l : List ℕ). getD l i 0) to-192 in
       let behind : part 28 196 s ≡ replicate 28 0 = ap (take 28) (sym (drop-drop 4 192 s) ∙ ap (drop 4) to-192) in (
         made-state
             (made (here s (k .base) _ 32 32 to-32 (z .base)) (here s (k .ready) _ 64 32 to-64 (z .ready)) (here s (k .delayed) _ 96 32 to-96 (z .delayed))
@@ -123,7 +124,8 @@ module _ (st : State) (z : Sizes (st .kernel)) where
       all-clean : {a b d e : Bool} → a ≡ true → b ≡ true → d ≡ true → e ≡ true → a && b && d && e ≡ true
       all-clean p q r t = rw (p, q, r, t)
 
-      same-four : {a b c d a′ b′ c′ d′ : ℕ} → a ≡ a′ → b ≡ b′ → c ≡ c′ → d ≡ d′ → a + 256 * b + 65536 * c + 16777216 * d ≡ a′ + 256 * b′ + 65536 * c′ + 16777216 * d′
+      same-four : {a b c d a′ b′ c′ d′ : ℕ} → a ≡ a′ → b ≡ b′ → c ≡ c′ → d ≡ d′
+          → a + 256 * b + 65536 * c + 16777216 * d ≡ a′ + 256 * b′ + 65536 * c′ + 16777216 * d′
       same-four p q r t = cc
 
 -- ---- Reading, then writing

@@ -1,6 +1,7 @@
 -- No second answer of the three public functions: of any bytes and any tables, only one answer of `read` meets its contract as the check states it, with only
--- one contents of the ten tables, only one answer of `settled`, and only one contents of the bytes that `lay` leaves. Rules out: a contract that leaves a byte or a cell open, for bytes of
--- which no state can be read as for an image. Leaves: which they are (specs/Layout). (The law: crate one_answer, proofs/Law.) Assumes nothing.
+-- one contents of the ten tables, only one answer of `settled`, and only one contents of the bytes that `lay` leaves. Rules out: a contract that leaves a byte
+-- or a cell open, for bytes of which no state can be read as for an image. Leaves: which they are (specs/Layout, specs/Settled). (The law: crate one_answer,
+-- proofs/Law.) Assumes nothing.
 use mathlib.Core.Bool.{Bool}
 use mathlib.Core.List.{List}
 use Prim.Native.Nat.{ℕ}

@@ -158,13 +158,13 @@ pub fn read(
 pub fn settled(s: &[u8], c: Command, answer: Answer) -> Settled
     ensures { λ r. ⌜ r ≡ settledIn (now (s .entry)) (to-rules c) answer ⌝ }
 {
-    if s.len() != IMAGE_BYTES {
-        return Settled {
-            pending: 0,
-            exception: false,
-        };
+    if s.len() == IMAGE_BYTES {
+        return settle(pending_at(s), whose(c), TaskID(s[64]), answer);
     }
-    settle(pending_at(s), whose(c), TaskID(s[64]), answer)
+    Settled {
+        pending: 0,
+        exception: false,
+    }
 }
 
 // ---- Writing: what is written so far grows at its end. Parts are handed over by value, for the same reason.

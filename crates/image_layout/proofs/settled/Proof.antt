@@ -6,10 +6,6 @@ use Rattle.image_layout.specs.Settled.{settledIn}
 use Rattle.image_layout.proofs.settled.Statement.{statement}
 use Rattle.image_layout.proofs.settled.Tie as tie
 
-returns : tie.Need-returns
-unfolding settledIn
-returns c = rw (ne-eqb (length (c .before .before .args .s .now)) 512 (c .if1 .taken))
-
 pending-at-requires : tie.Need-pending-at-requires
 pending-at-requires c κs = search needs
 
@@ -22,21 +18,18 @@ shared-slice-read-t9 c = search needs
 settle-requires : tie.Need-settle-requires
 settle-requires c κs = search needs
 
-returns-2 : tie.Need-returns-2
+returns : tie.Need-returns
 unfolding settledIn
-returns-2 c =
+returns c =
     let asked = c .before .before in
     let reading = asked .before in
     let test = reading .before in
-    rw (eq-eqb (length (test .before .before .args .s .now)) 512 (test .if1 .left), ← reading .pending-at .ensures, ← asked .whose .ensures) (c .settle .ensures)
+    let long = eq-eqb (length (test .before .before .args .s .now)) 512 (test .if1 .taken) in
+    rw (long, ← reading .pending-at .ensures, ← asked .whose .ensures) (c .settle .ensures)
+
+returns-2 : tie.Need-returns-2
+unfolding settledIn
+returns-2 c = rw (ne-eqb (length (c .before .before .args .s .now)) 512 (c .if1 .left))
 
 pub settled-spec : {M : Type 1} → statement M
-settled-spec =
-    tie.close
-    (tie.spec
-    returns
-    pending-at-requires
-    whose-requires
-    shared-slice-read-t9
-    settle-requires
-    returns-2)
+settled-spec = tie.close (tie.spec pending-at-requires whose-requires shared-slice-read-t9 settle-requires returns returns-2)
