@@ -12,8 +12,7 @@ ghost use Rattle.image_calls.specs.Calls.{told, stepAnswer, stepImage, freshAns
 ghost use Rattle.image_calls.specs.Calls.{drawAnswer, drawSeed, drawValue, drawStepAnswer, drawStepImage};
 ghost use Rattle.image_calls.specs.Calls.{drawEvenOn, drawEvenAnswer, drawEvenSeed, drawEvenValue};
 ghost use Rattle.generator_evenly.specs.Public as evenly;
-ghost use Rattle.image_edge.specs.Edge.{imageLeft};
-ghost use Rattle.image.specs.Tables.{stepRead, drawnRead, behindRead};
+ghost use Rattle.image.specs.Tables.{stepRead, drawnRead, behindRead, doneRead, imageRead};
 use generator::Carried;
 use generator::Drawn;
 use generator::Profile;
@@ -101,7 +100,57 @@ fn step_on(
     )
 }
 
-// Steps the machine of an image: the answer is code + 256 * running + 65536 * released. A refusal leaves every byte.
+// The same, and what is left of an accepted step is laid out in the image: the answer in one number.
+fn step_and_keep(
+    image: &mut [u8],
+    base: &mut [u8; 32],
+    ready: &mut [u8; 32],
+    delayed: &mut [u8; 32],
+    held: &mut [u8; 32],
+    way: &mut [u8; 32],
+    until: &mut [u64; 32],
+    ceiling: &mut [u8; 8],
+    waiter: &mut [u8; 8],
+    clock: &mut u64,
+    started: &mut bool,
+    c: Command,
+) -> u32
+    ensures { λ r. ⌜ (r ≡ stepAnswer (now (image .entry)) (to-rules c))
+        × (now (image .exit) ≡ stepImage (now (image .entry)) (to-rules c)) ⌝ }
+{
+    let answer = step_on(
+        image,
+        base,
+        ready,
+        delayed,
+        held,
+        way,
+        until,
+        ceiling,
+        waiter,
+        clock,
+        started,
+        c,
+    );
+    keep(
+        image,
+        base,
+        ready,
+        delayed,
+        held,
+        way,
+        until,
+        ceiling,
+        waiter,
+        *clock,
+        *started,
+        c,
+        answer,
+    )
+}
+
+// Steps the machine of an image: the answer is code + 256 * running + 65536 * released, + 16777216 where it shows an
+// exception. A refusal leaves every byte.
 #[no_mangle]
 pub extern "C" fn rvn_step(image: &mut [u8], op: u64, a: u64, b: u64, value: u64) -> u32
     ensures { λ r. ⌜ (r ≡ stepAnswer (now (image .entry)) (told op a b value))
@@ -117,7 +166,7 @@ pub extern "C" fn rvn_step(image: &mut [u8], op: u64, a: u64, b: u64, value: u64
     let mut waiter = [0u8; 8];
     let mut clock = 0;
     let mut started = false;
-    let answer = step_on(
+    step_and_keep(
         image,
         &mut base,
         &mut ready,
@@ -130,20 +179,6 @@ pub extern "C" fn rvn_step(image: &mut [u8], op: u64, a: u64, b: u64, value: u64
         &mut clock,
         &mut started,
         command(op, a, b, value),
-    );
-    keep(
-        image,
-        &base,
-        &ready,
-        &delayed,
-        &held,
-        &way,
-        &until,
-        &ceiling,
-        &waiter,
-        clock,
-        started,
-        answer,
     )
 }
 
@@ -169,6 +204,7 @@ pub extern "C" fn rvn_fresh(image: &mut [u8]) -> u32
         &nobody,
         0,
         false,
+        0,
     );
     0
 }
@@ -501,7 +537,13 @@ fn draw_step_on(
     )
 }
 
-// The same, and the tables of a draw that is made are laid out in the image.
+// What is drawn, and the answer to it in one number.
+struct Done {
+    drawn: Drawn,
+    told: u32,
+}
+
+// The same, and what is left of a draw that is made is laid out in the image.
 fn draw_and_keep(
     image: &mut [u8],
     base: &mut [u8; 32],
@@ -516,13 +558,12 @@ fn draw_and_keep(
     started: &mut bool,
     seed: u32,
     p: Profile,
-) -> Carried
-    ensures { λ r. ⌜ (r ≡ drawnRead (now (image .entry)) seed p)
-        × (now (image .exit) ≡ imageLeft (now (image .entry))
-        (behindRead (now (image .entry))
+) -> Done
+    ensures { λ r. ⌜ (r ≡ doneRead (now (image .entry)) seed p)
+        × (now (image .exit) ≡ imageRead (now (image .entry))
         (tables (now (base .entry)) (now (ready .entry)) (now (delayed .entry)) (now (held .entry)) (now (way .entry))
         (now (until .entry)) (now (ceiling .entry)) (now (waiter .entry)) (now (clock .entry)) (now (started .entry)))
-        seed p) (drawnRead (now (image .entry)) seed p .answer)) ⌝ }
+        seed p) ⌝ }
 {
     let carried = draw_step_on(
         image,
@@ -539,8 +580,10 @@ fn draw_and_keep(
         seed,
         p,
     );
+    let drawn = carried.drawn;
+    let c = drawn.command;
     let answer = carried.answer;
-    keep(
+    let told = keep(
         image,
         base,
         ready,
@@ -552,9 +595,10 @@ fn draw_and_keep(
         waiter,
         *clock,
         *started,
+        c,
         answer,
     );
-    carried
+    Done { drawn, told }
 }
 
 // Draws a command for the machine of an image and carries it out: rvn_draw, then rvn_step of what is drawn, the state
@@ -584,7 +628,7 @@ pub extern "C" fn rvn_draw_step(
     let mut waiter = [0u8; 8];
     let mut clock = 0;
     let mut started = false;
-    let carried = draw_and_keep(
+    let done = draw_and_keep(
         image,
         &mut base,
         &mut ready,
@@ -599,8 +643,7 @@ pub extern "C" fn rvn_draw_step(
         *seed,
         profile(span, weights),
     );
-    let drawn = carried.drawn;
-    let answer = carried.answer;
+    let drawn = done.drawn;
     leave(drawn, seed, value);
-    pack_both(drawn, answer)
+    pack_both(drawn, done.told)
 }

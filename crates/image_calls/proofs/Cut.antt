@@ -9,16 +9,20 @@ use lib.Dec.{eqb, leb}
 use lib.ListN.{length, replicate, List·getD-eq-default}
 use borrow.Author.Tests.{ne-eqb, lt-leb, leb-false}
 use Rattle.rules.specs.Line.{within}
-use Rattle.rules.specs.Machine.{Machine, Command, running}
+use Rattle.rules.specs.Machine.{Command, running}
 use Rattle.rules.specs.declared.Kind.{Kind}
 use Rattle.rules.specs.declared.Kind.the-variants.{NoKind, Creating, Declaring, Starting, Delaying, Waking, Advancing, Opening, Entering, Ending}
 use Rattle.rules.specs.Kinds.{kinds, kind}
 use Rattle.rules.specs.Refusals.{Operand, never, unused, task, object, priority, ceiling, barrier, time, ticks, fits, operands, refusal}
 use Rattle.rules.specs.Refusals as rules
-use Rattle.rules.specs.Run.{next, released, answer, question}
+use Rattle.rules.specs.Run.{released, question}
+use Rattle.rules.specs.Run as R
+use Rattle.rules_exceptions.specs.Exceptions.{State, next, answer}
 use Rattle.kernel.specs.declared.Kernel.{Kernel}
 use Rattle.kernel.specs.declared.Left.{Left}
-use Rattle.kernel.specs.Public.{stepOf, leftOf}
+use Rattle.kernel.specs.Public.{leftOf}
+use Rattle.kernel_state.specs.declared.State as whole
+use Rattle.kernel_state.specs.Public.{stepOf}
 use Rattle.generator.specs.declared.Profile.{Profile}
 use Rattle.generator.specs.declared.Drawn.{Drawn}
 use Rattle.generator_draws.specs.Draw.{good-profile, draw-refusal, drawn-by, drawn, drawn-evenly}
@@ -95,25 +99,29 @@ unformed c = go (leb (c .op) 255) refl (leb (c .a) 255) refl (leb (c .b) 255) re
     go true e true f true g q = absurd (true≢false q)
 
 -- Two commands that are not formed are answered alike, by 4.
-module _ (m : Machine) (c : Command) (h : rules.formed c ≡ false) where
-  by-4 : refusal m c ≡ 4
+module _ (s : State) (c : Command) (h : rules.formed c ≡ false) where
+  by-4 : refusal (s .machine) c ≡ 4
   unfolding refusal
   by-4 = rw h
 
-  stays : next m c ≡ m
+  moves-none : R.next (s .machine) c ≡ s .machine
+  unfolding R.next
+  moves-none = rw by-4
+
+  stays : next s c ≡ s
   unfolding next
   stays = rw by-4
 
-  answers-4 : answer m c ≡ record { code = 4; running = running m; released = 0 }
+  answers-4 : answer s c ≡ record { code = 4; running = running (s .machine); released = 0; exception = false }
   unfolding answer released
-  answers-4 = rw (stays, by-4)
+  answers-4 = rw (moves-none, by-4)
 
-alike : (k : Kernel) (c d : Command) → rules.formed c ≡ false → rules.formed d ≡ false → stepOf k c ≡ stepOf k d
+alike : (k : whole.State) (c d : Command) → rules.formed c ≡ false → rules.formed d ≡ false → stepOf k c ≡ stepOf k d
 unfolding stepOf
 alike k c d h j = rw (stays _ c h, stays _ d j, answers-4 _ c h, answers-4 _ d j)
 
--- The kernel's step of what fits is the step of the command itself.
-pub fitted-step : (k : Kernel) (c : Command) → stepOf k (fitted c) ≡ stepOf k c
+-- The step of what fits is the step of the command itself.
+pub fitted-step : (k : whole.State) (c : Command) → stepOf k (fitted c) ≡ stepOf k c
 fitted-step k c = go (leb (c .op) 255 && leb (c .a) 255 && leb (c .b) 255) refl
   where
     go : (b : Bool) → leb (c .op) 255 && leb (c .a) 255 && leb (c .b) 255 ≡ b → stepOf k (cond b c (told 0 0 0 0)) ≡ stepOf k c

@@ -10,21 +10,31 @@ use mathlib.Core.List.{List, [], _∷_}
 use lib.ListN.{length, replicate}
 use lib.Dec.{eqb}
 use borrow.Author.Tests.{eq-eqb, ne-eqb, eqb-true, eqb-false}
-use Rattle.rules.specs.Machine.{Machine, Command, fresh}
-use Rattle.rules.specs.Sound.{sound}
-use Rattle.rules.specs.Refusals.{first-number}
-use Rattle.rules.specs.Run.{next, answer, run}
+use Rattle.rules.specs.Line.{one-if}
+use Rattle.rules.specs.Table.{carry, leave, release}
+use Rattle.rules.specs.Run as R
+use Rattle.rules.specs.Machine.{Machine, Command}
+use Rattle.rules.specs.Refusals.{first-number, refusal}
 use Rattle.rules.proofs.Words.{All}
 use Rattle.rules.proofs.Lists.{all-set}
 use Rattle.rules.proofs.Tests.{both-true}
 use Rattle.rules.proofs.Sounds.{tests-sound}
-use Rattle.rules.proofs.Step.{fresh-sound, run-sound}
 use Rattle.rules.proofs.Walk.{set-up}
+use Rattle.rules.proofs.Script.{create, object, start, delay, wake, advance, open′, failp}
+use Rattle.rules_exceptions.specs.Exceptions.{State, next, answer, run, fresh, sound}
+use Rattle.rules_exceptions.specs.Exceptions as told-by
+use Rattle.rules_exceptions.proofs.Kept.{tests-state, run-sound, fresh-sound}
+use Rattle.rules_exceptions.proofs.Theorems.{runs-alike, step-keeps-sound}
 use Rattle.kernel.specs.declared.Kernel.{Kernel}
-use Rattle.kernel.specs.View.{view, encode, times}
-use Rattle.kernel.specs.Public.{isSound, stepOf}
-use Rattle.kernel.proofs.Round.{view-encode}
-use Rattle.kernel.proofs.Written.{stands, encode-sound, step-on, step-sound, refused-keeps}
+use Rattle.kernel.specs.View.{times}
+use Rattle.kernel.specs.View as K
+use Rattle.kernel.specs.Public as P
+use Rattle.kernel.proofs.Round as round
+use Rattle.kernel.proofs.Written.{stands}
+use Rattle.kernel.proofs.Written as tables
+use Rattle.kernel_state.specs.declared.State as whole
+use Rattle.kernel_state.specs.declared.Answer.{Answer}
+use Rattle.kernel_state.specs.Public.{encode, isSound, stepOf}
 use Rattle.generator.specs.declared.Profile.{Profile}
 use Rattle.generator.specs.declared.Drawn.{Drawn}
 use Rattle.generator_draws.specs.Below.{even}
@@ -40,13 +50,12 @@ use Rattle.generator_evenly.specs.declared.Drawn as counted
 use Rattle.generator_evenly.specs.Public.{bare}
 use Rattle.generator_evenly.specs.Public as evenly
 use Rattle.generator_evenly.proofs.Shipped as evenly-shipped
-use Rattle.record_kept.specs.Kept.{kept}
-use Rattle.record_kept.specs.Kept as Kept
-use Rattle.image_form.specs.Layout.{imageOf, kernelOf, clean, formed, isImage}
+use Rattle.image_form.specs.Layout.{spare, imageOf, part, kernelOf, stateOf, clean, formed, isImage}
 use Rattle.image_calls.specs.Calls.{told, packed, stepAnswer, stepImage, freshAnswer, freshImage}
 use Rattle.image_calls.specs.Calls.{toldProfile, drawOn, packedDrawn, drawAnswer, drawSeed, drawValue, drawStepAnswer, drawStepImage}
 use Rattle.image_calls.specs.Calls.{drawEvenOn, packedEven, drawEvenAnswer, drawEvenSeed, drawEvenValue}
 use Rattle.image_form.proofs.RoundTrip.{Bytes, image-size, image-back, bytes-are}
+use Rattle.image_calls.proofs.Whole.{tables-sound, pending-few, encode-sound, step-on, step-sound, refused-keeps, same-code, answer-small}
 
 -- A sound state's times are numbers of 64 bits.
 all-zero : (n : ℕ) → All (λ x. x < 2 ^ 64) (replicate n 0)
@@ -57,43 +66,44 @@ times-small : (l : List (ℕ × ℕ)) → All (λ e. e .0 < 2 ^ 64) l → All (�
 times-small [] a = all-zero 32
 times-small (e ∷ l) a = all-set (λ x. x < 2 ^ 64) (times l) (e .1) (e .0) (a .0) (times-small l (a .1))
 
-until-small : (k : Kernel) → isSound k ≡ true → All (λ x. x < 2 ^ 64) (k .until)
-unfolding encode
+until-small : (k : Kernel) → P.isSound k ≡ true → All (λ x. x < 2 ^ 64) (k .until)
+unfolding K.encode
 until-small k e =
     let w = stands k e in
-    subst (λ (j : Kernel). All (λ x. x < 2 ^ 64) (j .until)) (w .written) (times-small (view k .delay) (w .machine .in-time .times-fit))
+    subst (λ (j : Kernel). All (λ x. x < 2 ^ 64) (j .until)) (w .written) (times-small (K.view k .delay) (w .machine .in-time .times-fit))
 
-clock-small : (k : Kernel) → isSound k ≡ true → k .clock < 2 ^ 64
-unfolding view
+clock-small : (k : Kernel) → P.isSound k ≡ true → k .clock < 2 ^ 64
+unfolding K.view
 clock-small k e = stands k e .machine .in-time .clock-fits
 
 -- ## Every sound state has an image, which reads back as that state
--- Rules out: two fields in one place, a field left out or cut, another byte order in reading than in writing, an image of another length.
--- Leaves: bytes that no state writes, and that are taken all the same (one-image).
-pub reads-back : (k : Kernel) → isSound k ≡ true → (isImage (imageOf k) ≡ true) × (kernelOf (imageOf k) ≡ k)
+-- Rules out: two fields in one place, a field left out or cut, the pending exceptions too, another byte order in reading than in writing, an image of
+-- another length. Leaves: bytes that no state writes, and that are taken all the same (one-image).
+pub reads-back : (k : whole.State) → isSound k ≡ true → (isImage (imageOf k) ≡ true) × (stateOf (imageOf k) ≡ k)
 unfolding isImage formed
 reads-back k e =
-    let z = stands k e .neat .sizes in
-    let w = image-back k z (clock-small k e) (until-small k e) in
+    let s = tables-sound k e in
+    let z = stands (k .kernel) s .neat .sizes in
+    let w = image-back k z (clock-small (k .kernel) s) (until-small (k .kernel) s) (pending-few k e) in
     (rw (eq-eqb (length (imageOf k)) 512 (image-size k z), w .1, w .0, e), w .0)
 
 -- ## One image for each state: bytes that are an image are the image of the state that they hold
 -- So two images of one state are the same bytes. Rules out: a spare byte that is not looked at, a started byte of 2, a 513th byte.
-pub one-image : (s : List ℕ) → Bytes s → isImage s ≡ true → imageOf (kernelOf s) ≡ s
+pub one-image : (s : List ℕ) → Bytes s → isImage s ≡ true → imageOf (stateOf s) ≡ s
 unfolding isImage formed
 one-image s small e =
-    let w = both-true (formed s) (isSound (kernelOf s)) e in
+    let w = both-true (formed s) (isSound (stateOf s)) e in
     let v = both-true (eqb (length s) 512) (clean s) (w .0) in
     bytes-are s (eqb-true (length s) 512 (v .0)) small (v .1)
 
-pub same-bytes : (s t : List ℕ) → Bytes s → Bytes t → isImage s ≡ true → isImage t ≡ true → kernelOf s ≡ kernelOf t → s ≡ t
+pub same-bytes : (s t : List ℕ) → Bytes s → Bytes t → isImage s ≡ true → isImage t ≡ true → stateOf s ≡ stateOf t → s ≡ t
 same-bytes s t b c d e q = sym (one-image s b d) ∙ (ap imageOf q ∙ one-image t c e)
 
 -- ## Stepping the image is stepping the state
 -- The answer is the state's, packed, and the bytes afterwards are the image of the state after the step: of an accepted command and of a
 -- refused one, for any four numbers, however large. Rules out: a refusal that writes, an accepted step that does not, an operand that is cut.
--- Leaves: what the step is (crates/kernel, crates/rules).
-pub steps-state : (k : Kernel) (c : Command) → isSound k ≡ true
+-- Leaves: what the step is (crates/kernel_state, crates/rules_exceptions).
+pub steps-state : (k : whole.State) (c : Command) → isSound k ≡ true
     → (stepAnswer (imageOf k) c ≡ packed (stepOf k c .answer)) × (stepImage (imageOf k) c ≡ imageOf (stepOf k c .next))
 unfolding stepAnswer stepImage
 steps-state k c e =
@@ -102,53 +112,113 @@ steps-state k c e =
   where
     go : (b : Bool) → eqb (stepOf k c .answer .code) 0 ≡ b → cond b (imageOf (stepOf k c .next)) (imageOf k) ≡ imageOf (stepOf k c .next)
     go true q = refl
-    go false q = ap imageOf (sym (refused-keeps k c (λ z. true≢false (sym (eq-eqb _ 0 z) ∙ q))))
+    go false q = ap imageOf (sym (refused-keeps k c e (λ z. true≢false (sym (eq-eqb _ 0 z) ∙ q)) .0))
 
--- The same in the words of document 01's machine: the image of a sound machine is stepped to the image of the machine after the command, and the answer is
--- what a record keeps of the rules', in one number. (That it is read off the number again: record_kept/proofs/Laws, unpacked.)
-pub steps-machine : (m : Machine) (c : Command) → sound m ≡ true
-    → (stepAnswer (imageOf (encode m)) c ≡ Kept.packed (kept (answer m c))) × (stepImage (imageOf (encode m)) c ≡ imageOf (encode (next m c)))
+-- The same in the words of document 01's machine with its pending exceptions: the image of a sound one is stepped to the image of the one after the command,
+-- and the answer is the rules', in one number.
+abbrev pub answered : told-by.Answer → ℕ
+answered a = packed (record { code = a .code; running = record { 0 = a .running }; released = record { 0 = a .released }; exception = a .exception })
+
+pub steps-machine : (m : State) (c : Command) → sound m ≡ true
+    → (stepAnswer (imageOf (encode m)) c ≡ answered (answer m c)) × (stepImage (imageOf (encode m)) c ≡ imageOf (encode (next m c)))
 steps-machine m c e =
-    let s = tests-sound m .sure e in
-    let w = steps-state (encode m) c (encode-sound m s) in
-    let q = step-on m s c in
+    let w = steps-state (encode m) c (encode-sound m e) in
+    let q = step-on m e c in
     (w .0 ∙ ap (λ r. packed (r .answer)) q, w .1 ∙ ap (λ r. imageOf (r .next)) q)
 
--- what an image says of its state
-image-sound : (s : List ℕ) → isImage s ≡ true → isSound (kernelOf s) ≡ true
+-- what an image says of its state, and of the tables
+image-sound : (s : List ℕ) → isImage s ≡ true → isSound (stateOf s) ≡ true
 unfolding isImage
-image-sound s e = both-true (formed s) (isSound (kernelOf s)) e .1
+image-sound s e = both-true (formed s) (isSound (stateOf s)) e .1
+
+tables-of : (s : List ℕ) → isImage s ≡ true → P.isSound (kernelOf s) ≡ true
+tables-of s e = tables-sound (stateOf s) (image-sound s e)
 
 -- ## An image stays an image, and so over any calls
 pub stays-image : (s : List ℕ) (c : Command) → isImage s ≡ true → isImage (stepImage s c) ≡ true
 unfolding stepImage
-stays-image s c e = go (isImage s && eqb (stepOf (kernelOf s) c .answer .code) 0)
+stays-image s c e = go (isImage s && eqb (stepOf (stateOf s) c .answer .code) 0)
   where
-    state : isSound (kernelOf s) ≡ true
+    state : isSound (stateOf s) ≡ true
     state = image-sound s e
 
-    go : (b : Bool) → isImage (cond b (imageOf (stepOf (kernelOf s) c .next)) s) ≡ true
-    go true = reads-back (stepOf (kernelOf s) c .next) (step-sound (kernelOf s) c state) .0
+    go : (b : Bool) → isImage (cond b (imageOf (stepOf (stateOf s) c .next)) s) ≡ true
+    go true = reads-back (stepOf (stateOf s) c .next) (step-sound (stateOf s) c state) .0
     go false = e
 
+-- ## The number unpacked: code, running, released and the exception are read off it again
+-- Rules out: a packing in which two answers meet. (Bytes that are no image are answered 1: 1, 0, 0, and no exception.)
+apart : (code running released x : ℕ) → code < 14 → running < 32 → released < 32
+    → let n = code + 256 * running + 65536 * released + 16777216 * x in
+    (n % 256 ≡ code) × (n / 256 % 256 ≡ running) × (n / 65536 % 256 ≡ released) × (n / 16777216 ≡ x)
+apart c u v x h i j = (omega arith, omega arith, omega arith, omega arith)
+
+pub unpacked : (s : List ℕ) (c : Command) → isImage s ≡ true
+    → let n = stepAnswer s c in let a = stepOf (stateOf s) c .answer in
+    (n % 256 ≡ a .code) × (n / 256 % 256 ≡ a .running .0) × (n / 65536 % 256 ≡ a .released .0) × (n / 16777216 ≡ one-if (a .exception))
+unfolding stepAnswer
+unpacked s c e =
+    let a = stepOf (stateOf s) c .answer in
+    let w = answer-small (stateOf s) c (image-sound s e) in
+    rw e (apart (a .code) (a .running .0) (a .released .0) (one-if (a .exception)) (w .0) (w .1) (w .2))
+
+-- ## A refusal shows no exception: bit 24 is 0, and so is every bit above it
+-- Rules out: a refusal that shows the runner's. Leaves: which accepted answers show one (crates/rules_exceptions: shown-exactly).
+pub refusal-shows-none : (s : List ℕ) (c : Command) → stepAnswer s c % 256 ≢ 0 → stepAnswer s c < 16777216
+unfolding stepAnswer
+refusal-shows-none s c = go (isImage s) refl
+  where
+    go : (b : Bool) → isImage s ≡ b → let n = cond b (packed (stepOf (stateOf s) c .answer)) 1 in n % 256 ≢ 0 → n < 16777216
+    go true e n =
+        let a = stepOf (stateOf s) c .answer in
+        let k = image-sound s e in
+        let w = answer-small (stateOf s) c k in
+        let u = apart (a .code) (a .running .0) (a .released .0) (one-if (a .exception)) (w .0) (w .1) (w .2) in
+        let none : one-if (a .exception) ≡ 0 = ap one-if (refused-keeps (stateOf s) c k (λ z. n (u .0 ∙ z)) .1) in
+        omega (arith, none, w .0, w .1, w .2)
+    go false e n = omega arith
+
+-- ## An exception that waits, and is shown: by computing
+-- 24 holds object 1 when 21, above it, wakes; it ends its body by an exception, and so 21 runs. The answer (256 * 21) shows none; bit 24 stands in the image,
+-- in byte 195. When 21 sleeps again 24 runs: that answer (16777216 + 256 * 24) shows it, and it is pending no more.
+-- Rules out: bytes of the number turned round, in writing and in reading alike; a bit of the next task.
+abbrev until-woken : List Command
+until-woken = create 21 3 ∷ create 24 1 ∷ object 1 12 ∷ start ∷ delay 90 ∷ open′ 1 ∷ advance 90 ∷ wake ∷ []
+
+pub shown-there : let s = imageOf (encode (run fresh until-woken)) in let t = stepImage s (failp 1 1) in
+    (stepAnswer s (failp 1 1) ≡ 5376) × (part 32 192 t ≡ 0 ∷ 0 ∷ 0 ∷ 1 ∷ replicate 28 0)
+    × (stepAnswer t (delay 300) ≡ 16783360) × (part 32 192 (stepImage t (delay 300)) ≡ spare)
+unfolding imageOf encode K.encode answer next run R.next R.released refusal carry leave release
+shown-there =
+    let m = run fresh until-woken in
+    let e = tests-state m .found (run-sound until-woken fresh fresh-sound) in
+    let w = steps-machine m (failp 1 1) e in
+    let v = steps-machine (next m (failp 1 1)) (delay 300) (step-keeps-sound m (failp 1 1) e) in (
+      w .0,
+      ap (part 32 192) (w .1),
+      ap (λ (s : List ℕ). stepAnswer s (delay 300)) (w .1) ∙ v .0,
+      ap (λ (s : List ℕ). part 32 192 (stepImage s (delay 300))) (w .1) ∙ ap (part 32 192) (v .1),
+    )
+
 -- ## The fresh machine's image, whatever the 512 bytes held
-pub fresh-reads : (s : List ℕ) → length s ≡ 512 → (freshAnswer s ≡ 0) × (isImage (freshImage s) ≡ true) × (kernelOf (freshImage s) ≡ encode fresh)
+pub fresh-reads : (s : List ℕ) → length s ≡ 512 → (freshAnswer s ≡ 0) × (isImage (freshImage s) ≡ true) × (stateOf (freshImage s) ≡ encode fresh)
 unfolding freshAnswer freshImage
 fresh-reads s l =
-    let w = reads-back (encode fresh) (encode-sound fresh fresh-sound) in
+    let w = reads-back (encode fresh) (encode-sound fresh (tests-state fresh .found fresh-sound)) in
     rw (eq-eqb (length s) 512 l) (refl, w .0, w .1)
 
--- ## Drawing over an image is drawing over its state, and so over document 01's machine
--- Rules out: a draw that looks at another state, a profile that is cut or turned round. Leaves: what a draw is (crates/generator).
-pub draws-state : (k : Kernel) (seed : ℕ) (p : Profile) → isSound k ≡ true → drawOn (imageOf k) seed p ≡ drawnOf k seed p
+-- ## Drawing over an image is drawing over its tables, and so over document 01's machine
+-- Rules out: a draw that looks at another state, or at what is pending; a profile that is cut or turned round. Leaves: what a draw is (crates/generator).
+pub draws-state : (k : whole.State) (seed : ℕ) (p : Profile) → isSound k ≡ true → drawOn (imageOf k) seed p ≡ drawnOf (k .kernel) seed p
 unfolding drawOn
-draws-state k seed p e = let w = reads-back k e in rw (w .0, w .1)
+draws-state k seed p e = let w = reads-back k e in rw (w .0, ap (λ (j : whole.State). j .kernel) (w .1))
 
-pub draws-machine : (m : Machine) (seed : ℕ) (p : Profile) → sound m ≡ true → drawOn (imageOf (encode m)) seed p ≡ toldDrawn (drawn m seed (profileOf p))
-unfolding drawnOf drawnIn
+pub draws-machine : (m : State) (seed : ℕ) (p : Profile) → sound m ≡ true
+    → drawOn (imageOf (encode m)) seed p ≡ toldDrawn (drawn (m .machine) seed (profileOf p))
+unfolding drawnOf drawnIn encode
 draws-machine m seed p e =
-    let s = tests-sound m .sure e in
-    draws-state (encode m) seed p (encode-sound m s) ∙ rw (encode-sound m s, view-encode m s)
+    let s = tests-state m .sure e .machine in
+    draws-state (encode m) seed p (encode-sound m e) ∙ rw (tables.encode-sound (m .machine) s, round.view-encode (m .machine) s)
 
 -- an accepted draw is over an image, and is the generator's
 of-image : (s : List ℕ) (seed : ℕ) (p : Profile) → drawOn s seed p .code ≡ 0 → (isImage s ≡ true) × (drawOn s seed p ≡ drawnOf (kernelOf s) seed p)
@@ -173,11 +243,11 @@ left-alone s seed p = go (isImage s)
 fine-small : (m : Machine) (p : draws.Profile) (c : Command) → Fine m p c → (c .op < 256) × (c .a < 256) × (c .b < 256)
 fine-small m p c f = (omega (arith, f .op .1), omega (arith, f .fits .0), omega (arith, f .fits .1))
 
-drawn-small : (k : Kernel) (seed : ℕ) (p : Profile) → isSound k ≡ true → drawnOf k seed p .code ≡ 0
+drawn-small : (k : Kernel) (seed : ℕ) (p : Profile) → P.isSound k ≡ true → drawnOf k seed p .code ≡ 0
     → let c = drawnOf k seed p .command in (c .op < 256) × (c .a < 256) × (c .b < 256)
 unfolding drawnOf drawnIn
 drawn-small k seed p s =
-    rw s (λ e. fine-small _ _ _ (drawn-is-fine (view k) seed (profileOf p) (tests-sound (view k) .found (stands k s .machine)) e))
+    rw s (λ e. fine-small _ _ _ (drawn-is-fine (K.view k) seed (profileOf p) (tests-sound (K.view k) .found (stands k s .machine)) e))
 
 -- codes are bytes
 first-small : (a b c d : Bool) → first-number ((a, 1) ∷ (b, 17) ∷ (c, 18) ∷ (d, 2) ∷ []) < 256
@@ -194,7 +264,7 @@ code-small s seed p = go (isImage s)
     go : (b : Bool) → cond b (drawnOf (kernelOf s) seed p) (refusedOf 1 seed) .code < 256
     go true =
         let k = kernelOf s in
-        rw (code-in-order k seed p) (first-small (not (isSound k)) (eqb seed 0) (not (good-profile (profileOf p))) (not (k .started)))
+        rw (code-in-order k seed p) (first-small (not (P.isSound k)) (eqb seed 0) (not (good-profile (profileOf p))) (not (k .started)))
     go false = omega arith
 
 -- The answer unpacked, of operands that are bytes.
@@ -224,7 +294,7 @@ module _ (s : List ℕ) (seed span : ℕ) (weights : List ℕ) (value : ℕ) whe
       let p = toldProfile span weights in
       let q = of-image s seed p (accepted-so e) in
       let made : drawnOf (kernelOf s) seed p .code ≡ 0 = rw (← q .1) (accepted-so e) in
-      rw (q .1) (drawn-small (kernelOf s) seed p (image-sound s (q .0)) made)
+      rw (q .1) (drawn-small (kernelOf s) seed p (tables-of s (q .0)) made)
 
   parts-of : drawAnswer s seed span weights % 256 ≡ 0
       → let r = packedDrawn found in let c = found .command in (found .code ≡ 0) × (r / 256 % 256 ≡ c .op) × (r / 65536 % 256 ≡ c .a) × (r / 16777216 ≡ c .b)
@@ -241,7 +311,7 @@ module _ (s : List ℕ) (seed span : ℕ) (weights : List ℕ) (value : ℕ) whe
       let p = toldProfile span weights in
       let w = parts-of e in
       let q = of-image s seed p (w .0) in
-      let accepted = drawn-accepted (kernelOf s) seed p (rw (← q .1) (w .0)) in
+      let accepted = same-code (stateOf s) _ (image-sound s (q .0)) ∙ drawn-accepted (kernelOf s) seed p (rw (← q .1) (w .0)) in
       rw (w .1, w .2, w .3, eq-eqb (found .code) 0 (w .0), q .0, q .1) (omega (arith, accepted))
 
   -- ## A refused draw changes nothing: its answer is the code alone, and the seed and the value are as they were
@@ -283,28 +353,35 @@ module _ (s : List ℕ) (seed span : ℕ) (weights : List ℕ) (value : ℕ) whe
       let other : found .code ≢ 0 = λ e. n (code-of ∙ e) in rw (ne-eqb (found .code) 0 other) (add-zero (packedDrawn found), refl)
 
 -- ## Document 01's draw
+-- the state behind its five set-up lines
+abbrev pub worked : State
+worked = run fresh set-up
+
+worked-sound : sound worked ≡ true
+worked-sound = tests-state worked .found (run-sound set-up fresh fresh-sound)
+
 -- `seed 1 span 100 weights 10 10 10 10 10 10 10 10` on the image behind its five set-up lines: op 4 (1024 is 256 * 4), the time 39, the third draw as the
 -- seed.
-pub draws-39-there : let s = imageOf (encode (run fresh set-up)) in let w : List ℕ = 10 ∷ 10 ∷ 10 ∷ 10 ∷ 10 ∷ 10 ∷ 10 ∷ 10 ∷ [] in
+pub draws-39-there : let s = imageOf (encode worked) in let w : List ℕ = 10 ∷ 10 ∷ 10 ∷ 10 ∷ 10 ∷ 10 ∷ 10 ∷ 10 ∷ [] in
     (drawAnswer s 1 100 w ≡ 1024) × (drawSeed s 1 100 w ≡ 2647435461) × (drawValue s 1 100 w 0 ≡ 39)
-unfolding drawAnswer drawSeed drawValue
+unfolding drawAnswer drawSeed drawValue encode
 draws-39-there =
-    let k = encode (run fresh set-up) in
-    let q = draws-state k 1 (toldProfile 100 (10 ∷ 10 ∷ 10 ∷ 10 ∷ 10 ∷ 10 ∷ 10 ∷ 10 ∷ []))
-    (encode-sound (run fresh set-up) (run-sound set-up fresh fresh-sound)) ∙ draws-39 in
+    let q = draws-state (encode worked) 1 (toldProfile 100 (10 ∷ 10 ∷ 10 ∷ 10 ∷ 10 ∷ 10 ∷ 10 ∷ 10 ∷ [])) (encode-sound worked worked-sound)
+    ∙ (ap (λ (m : Machine). drawnOf (K.encode m) 1 (toldProfile 100 (10 ∷ 10 ∷ 10 ∷ 10 ∷ 10 ∷ 10 ∷ 10 ∷ 10 ∷ []))) (runs-alike set-up fresh) ∙ draws-39) in
     (ap packedDrawn q, ap (λ (d : Drawn). d .seed) q, ap (λ (d : Drawn). cond (eqb (d .code) 0) (d .command .value) 0) q)
 
 -- ## A draw by even choices (edition 2) is so over the image, its state and document 01's machine
-pub draws-state-evenly : (k : Kernel) (seed : ℕ) (p : Profile) → isSound k ≡ true → drawEvenOn (imageOf k) seed p ≡ evenly.drawnOf k seed p
+pub draws-state-evenly : (k : whole.State) (seed : ℕ) (p : Profile) → isSound k ≡ true
+    → drawEvenOn (imageOf k) seed p ≡ evenly.drawnOf (k .kernel) seed p
 unfolding drawEvenOn
-draws-state-evenly k seed p e = let w = reads-back k e in rw (w .0, w .1)
+draws-state-evenly k seed p e = let w = reads-back k e in rw (w .0, ap (λ (j : whole.State). j .kernel) (w .1))
 
-pub draws-machine-evenly : (m : Machine) (seed : ℕ) (p : Profile) → sound m ≡ true
-    → drawEvenOn (imageOf (encode m)) seed p ≡ evenly.toldDrawn (drawn-evenly m seed (profileOf p))
-unfolding evenly.drawnOf
+pub draws-machine-evenly : (m : State) (seed : ℕ) (p : Profile) → sound m ≡ true
+    → drawEvenOn (imageOf (encode m)) seed p ≡ evenly.toldDrawn (drawn-evenly (m .machine) seed (profileOf p))
+unfolding evenly.drawnOf encode
 draws-machine-evenly m seed p e =
-    let s = tests-sound m .sure e in
-    draws-state-evenly (encode m) seed p (encode-sound m s) ∙ rw (encode-sound m s, view-encode m s)
+    let s = tests-state m .sure e .machine in
+    draws-state-evenly (encode m) seed p (encode-sound m e) ∙ rw (tables.encode-sound (m .machine) s, round.view-encode (m .machine) s)
 
 -- The two ways of such a draw: refused, it is its code and the seed that came in; made, it is over an image, and the generator's.
 data EvenWay (s : List ℕ) (seed : ℕ) (p : Profile) : Type 0 where
@@ -318,7 +395,7 @@ even-way s seed p = go (isImage s) refl (eqb (evenly.drawnOf (kernelOf s) seed p
     small : evenly.drawnOf (kernelOf s) seed p .code < 256
     small =
         let k = kernelOf s in
-        rw (evenly-shipped.code-in-order k seed p) (first-small (not (isSound k)) (eqb seed 0) (not (good-profile (profileOf p))) (not (k .started)))
+        rw (evenly-shipped.code-in-order k seed p) (first-small (not (P.isSound k)) (eqb seed 0) (not (good-profile (profileOf p))) (not (k .started)))
 
     go : (b : Bool) → isImage s ≡ b → (z : Bool) → eqb (evenly.drawnOf (kernelOf s) seed p .code) 0 ≡ z → EvenWay s seed p
     go false i z e = refused 1 (λ n. omega (arith, n)) (omega arith) (rw i)
@@ -333,11 +410,11 @@ left-alone-evenly s seed p n = go (even-way s seed p)
     go (refused code k small q) = ap (λ (d : counted.Drawn). d .seed) q
     go (made i z q) = absurd (n (ap (λ (d : counted.Drawn). d .code) q ∙ z))
 
-drawn-small-evenly : (k : Kernel) (seed : ℕ) (p : Profile) → isSound k ≡ true → evenly.drawnOf k seed p .code ≡ 0
+drawn-small-evenly : (k : Kernel) (seed : ℕ) (p : Profile) → P.isSound k ≡ true → evenly.drawnOf k seed p .code ≡ 0
     → let c = evenly.drawnOf k seed p .command in (c .op < 256) × (c .a < 256) × (c .b < 256)
 unfolding evenly.drawnOf drawn-evenly
 drawn-small-evenly k seed p s =
-    rw s (λ e. fine-small _ _ _ (drawn-by-is-fine even even-chooses (view k) seed (profileOf p) (tests-sound (view k) .found (stands k s .machine)) e))
+    rw s (λ e. fine-small _ _ _ (drawn-by-is-fine even even-chooses (K.view k) seed (profileOf p) (tests-sound (K.view k) .found (stands k s .machine)) e))
 
 -- Where its code is 0: the low 32 bits of the answer are taken apart as those of rvn_draw's, the rest is the draws that it spent.
 module _ (s : List ℕ) (seed span : ℕ) (weights : List ℕ) (value : ℕ) where
@@ -361,7 +438,7 @@ module _ (s : List ℕ) (seed span : ℕ) (weights : List ℕ) (value : ℕ) whe
   bytes-evenly : drawEvenAnswer s seed span weights % 256 ≡ 0 → let c = found-evenly .command in (c .op < 256) × (c .a < 256) × (c .b < 256)
   bytes-evenly e =
       let w = made-evenly e in
-      rw (w .1) (drawn-small-evenly (kernelOf s) seed (toldProfile span weights) (image-sound s (w .0)) (code-there e))
+      rw (w .1) (drawn-small-evenly (kernelOf s) seed (toldProfile span weights) (tables-of s (w .0)) (code-there e))
 
   pub draw-even-apart : drawEvenAnswer s seed span weights % 256 ≡ 0
       → let n = drawEvenAnswer s seed span weights in (n % 4294967296 ≡ packedDrawn (bare found-evenly)) × (n / 4294967296 ≡ found-evenly .spent)
@@ -380,7 +457,8 @@ module _ (s : List ℕ) (seed span : ℕ) (weights : List ℕ) (value : ℕ) whe
       let w = made-evenly e in
       let small = bytes-evenly e in
       let u = unpacked-draw (bare found-evenly) (omega (arith, w .2)) (small .0) (small .1) in
-      let accepted = evenly-shipped.drawn-accepted (kernelOf s) seed (toldProfile span weights) (code-there e) in
+      let accepted = same-code (stateOf s) _ (image-sound s (w .0))
+      ∙ evenly-shipped.drawn-accepted (kernelOf s) seed (toldProfile span weights) (code-there e) in
       rw (draw-even-apart e .0, u .1, u .2, u .3, eq-eqb (found-evenly .code) 0 (w .2), w .0, w .1) (omega (arith, accepted))
 
   -- ## The draws spent are told truly: the seed left is the draw applied that often, 3 to 24 times
@@ -407,13 +485,13 @@ module _ (s : List ℕ) (seed span : ℕ) (weights : List ℕ) (value : ℕ) whe
 
 -- Document 01's draw by even choices: the time is 38, since a number below 101 is chosen from the draw less 1; 3 draws are spent (12884902912 is
 -- 4294967296 * 3 + 256 * 4).
-pub draws-38-there : let s = imageOf (encode (run fresh set-up)) in let w : List ℕ = 10 ∷ 10 ∷ 10 ∷ 10 ∷ 10 ∷ 10 ∷ 10 ∷ 10 ∷ [] in
+pub draws-38-there : let s = imageOf (encode worked) in let w : List ℕ = 10 ∷ 10 ∷ 10 ∷ 10 ∷ 10 ∷ 10 ∷ 10 ∷ 10 ∷ [] in
     (drawEvenAnswer s 1 100 w ≡ 12884902912) × (drawEvenSeed s 1 100 w ≡ 2647435461) × (drawEvenValue s 1 100 w 0 ≡ 38)
 unfolding drawEvenAnswer drawEvenSeed drawEvenValue
 draws-38-there =
-    let m = run fresh set-up in
-    let q = draws-machine-evenly m 1 (toldProfile 100 (10 ∷ 10 ∷ 10 ∷ 10 ∷ 10 ∷ 10 ∷ 10 ∷ 10 ∷ []))
-    (tests-sound m .found (run-sound set-up fresh fresh-sound)) ∙ ap evenly.toldDrawn (drawn-rows .0) in (
+    let p = toldProfile 100 (10 ∷ 10 ∷ 10 ∷ 10 ∷ 10 ∷ 10 ∷ 10 ∷ 10 ∷ []) in
+    let q = draws-machine-evenly worked 1 p worked-sound
+    ∙ (ap (λ (m : Machine). evenly.toldDrawn (drawn-evenly m 1 (profileOf p))) (runs-alike set-up fresh) ∙ ap evenly.toldDrawn (drawn-rows .0)) in (
       ap packedEven q,
       ap (λ (d : counted.Drawn). d .seed) q,
       ap (λ (d : counted.Drawn). cond (eqb (d .code) 0) (d .command .value) 0) q,

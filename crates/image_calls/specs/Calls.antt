@@ -5,20 +5,21 @@ use mathlib.Core.Bool.{cond, _&&_}
 use mathlib.Core.List.{List}
 use lib.Dec.{eqb, leb}
 use lib.ListN.{length, replicate}
-use Rattle.rules.specs.Machine.{Command, fresh}
-use Rattle.kernel.specs.declared.command.Answer.{Answer}
+use Rattle.rules.specs.Line.{one-if}
+use Rattle.rules.specs.Machine.{Command}
+use Rattle.rules_exceptions.specs.Exceptions.{fresh}
 use Rattle.kernel.specs.declared.Left.{Left}
-use Rattle.kernel.specs.View.{encode}
-use Rattle.kernel.specs.Public.{to-rules, stepOf, leftOf}
+use Rattle.kernel.specs.Public.{to-rules}
+use Rattle.kernel_state.specs.declared.Answer.{Answer}
+use Rattle.kernel_state.specs.Public.{encode, stepOf, leftOf}
 use Rattle.generator.specs.declared.Profile.{Profile}
 use Rattle.generator.specs.declared.Drawn.{Drawn}
 use Rattle.generator.specs.Public.{drawnOf, refusedOf}
 use Rattle.generator_evenly.specs.declared.Drawn as counted
 use Rattle.generator_evenly.specs.Public.{bare}
 use Rattle.generator_evenly.specs.Public as evenly
-use Rattle.record_kept.specs.Kept.{kept-of}
 use Rattle.record_kept.specs.Kept as Kept
-use Rattle.image_form.specs.Layout.{imageBytes, imageOf, kernelOf, isImage}
+use Rattle.image_form.specs.Layout.{imageBytes, imageOf, kernelOf, stateOf, isImage}
 
 -- The command that four numbers of any size say. None is cut: 260 is not 4.
 abbrev pub told : ℕ → ℕ → ℕ → ℕ → Command
@@ -32,19 +33,21 @@ fitted c = cond (leb (c .op) 255 && leb (c .a) 255 && leb (c .b) 255) c (told 0 
 abbrev pub fittedTask : ℕ → ℕ
 fittedTask t = cond (leb t 255) t 0
 
--- An answer in one number: what a record keeps of it, code + 256 * running + 65536 * released. Shape is 1, 0, 0 and so
--- 1.
+-- An answer in one number: what a record keeps of it, code + 256 * running + 65536 * released, and 16777216 more where
+-- it shows an exception. Shape is 1, 0, 0, and shows none: so 1.
 abbrev pub packed : Answer → ℕ
-packed a = Kept.packed (kept-of a)
+packed a =
+    Kept.packed (record { code = a .code; running = a .running; released = a .released })
+    + 16777216 * one-if (a .exception)
 
--- A step: the kernel's step of the state that the image holds. Bytes that are no image are 1.
+-- A step: the step of the state that the image holds. Bytes that are no image are 1.
 unfoldable pub stepAnswer : List ℕ → Command → ℕ
-stepAnswer s c = cond (isImage s) (packed (stepOf (kernelOf s) c .answer)) 1
+stepAnswer s c = cond (isImage s) (packed (stepOf (stateOf s) c .answer)) 1
 
 -- An accepted step leaves the image of the state after it, a refused one the bytes as they were.
 unfoldable pub stepImage : List ℕ → Command → List ℕ
 stepImage s c =
-    cond (isImage s && eqb (stepOf (kernelOf s) c .answer .code) 0) (imageOf (stepOf (kernelOf s) c .next)) s
+    cond (isImage s && eqb (stepOf (stateOf s) c .answer .code) 0) (imageOf (stepOf (stateOf s) c .next)) s
 
 -- The fresh machine, whatever the bytes held: 0, or 1 for a wrong length.
 unfoldable pub freshAnswer : List ℕ → ℕ
@@ -58,7 +61,7 @@ abbrev pub packedLeft : Left → ℕ
 packedLeft l = l .code + 256 * l .left
 
 unfoldable pub leftAnswer : List ℕ → ℕ → ℕ
-leftAnswer s t = cond (isImage s) (packedLeft (leftOf (kernelOf s) t)) 1
+leftAnswer s t = cond (isImage s) (packedLeft (leftOf (stateOf s) t)) 1
 
 -- The profile that a span of any size and a list of weights say. Where they are not eight the span is 0, and so 18
 -- refuses it.
@@ -72,7 +75,7 @@ fittedProfile span weights =
     cond (leb span 4294967295 && eqb (length weights) 8) (record { span = span; weights = weights })
     (record { span = 0; weights = replicate 8 0 })
 
--- A draw: the generator's draw over the state that the image holds. Bytes that are no image are refused with 1, before
+-- A draw: the generator's draw over the tables that the image holds. Bytes that are no image are refused with 1, before
 -- all else.
 unfoldable pub drawOn : List ℕ → ℕ → Profile → Drawn
 drawOn s seed p = cond (isImage s) (drawnOf (kernelOf s) seed p) (refusedOf 1 seed)

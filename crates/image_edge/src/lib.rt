@@ -9,7 +9,7 @@ ghost use Rattle.kernel.specs.Step.{tables};
 ghost use Rattle.image_calls.specs.Calls.{told, fitted, fittedTask, packed, packedLeft, fittedProfile, packedDrawn};
 ghost use Rattle.image_calls.specs.Calls.{valueLeft, packedEven};
 ghost use Rattle.generator_evenly.specs.Public as evenly;
-ghost use Rattle.image_edge.specs.Edge.{imageLeft, seedLeft, packedBoth};
+ghost use Rattle.image_edge.specs.Edge.{shown, toldIn, imageLeft, seedLeft, packedBoth};
 use generator::Drawn;
 use generator::Profile;
 use kernel::Answer;
@@ -92,11 +92,15 @@ pub fn profile(span: u64, weights: &[u32]) -> Profile
 
 // ---- Answers in one number
 
-// An answer in one number: what a record keeps of it.
-fn pack(a: Answer) -> u32
-    ensures { λ r. ⌜ r ≡ packed a ⌝ }
+// An answer in one number: what a record keeps of it, and 16777216 more where it shows an exception.
+fn pack(a: Answer, exception: bool) -> u32
+    ensures { λ r. ⌜ r ≡ packed (shown a exception) ⌝ }
 {
-    record_kept::pack(kept_of(a))
+    let kept = record_kept::pack(kept_of(a));
+    if exception {
+        return kept + 16777216;
+    }
+    kept
 }
 
 // "Wakes left": code + 256 * the count.
@@ -116,15 +120,15 @@ pub fn pack_drawn(d: Drawn) -> u32
 
 // The answers of a draw and of its step in one number: the draw's + 4294967296 * the step's. Of a refused draw it is
 // the draw's alone.
-pub fn pack_both(d: Drawn, a: Answer) -> u64
-    ensures { λ r. ⌜ r ≡ packedBoth d a ⌝ }
+pub fn pack_both(d: Drawn, step: u32) -> u64
+    ensures { λ r. ⌜ r ≡ packedBoth d step ⌝ }
 {
     let drawn = wider(pack_drawn(d));
     let code = d.code;
     if code != 0 {
         return drawn;
     }
-    drawn + 4294967296 * wider(pack(a))
+    drawn + 4294967296 * wider(step)
 }
 
 // What a draw by even choices tells, without the draws that it spent: as a draw of edition 1 tells it.
@@ -160,7 +164,8 @@ pub fn leave(d: Drawn, seed: &mut u32, value: &mut u64)
     *value = d.command.value;
 }
 
-// An accepted command's tables are laid out in the image; a refusal leaves every byte. The answer in one number.
+// The answer to a command in one number, with the exception that it shows. An accepted command's tables are laid out in
+// the image, with what is pending then; a refusal leaves every byte.
 pub fn keep(
     image: &mut [u8],
     base: &[u8; 32],
@@ -173,14 +178,16 @@ pub fn keep(
     waiter: &[u8; 8],
     clock: u64,
     started: bool,
+    c: Command,
     answer: Answer,
 ) -> u32
-    ensures { λ r. ⌜ (r ≡ packed answer)
+    ensures { λ r. ⌜ (r ≡ toldIn (now (image .entry)) (to-rules c) answer)
         × (now (image .exit) ≡ imageLeft (now (image .entry))
         (tables (now (base .entry)) (now (ready .entry)) (now (delayed .entry)) (now (held .entry)) (now (way .entry))
-        (now (until .entry)) (now (ceiling .entry)) (now (waiter .entry)) clock started) answer) ⌝ }
+        (now (until .entry)) (now (ceiling .entry)) (now (waiter .entry)) clock started) (to-rules c) answer) ⌝ }
 {
-    let r = pack(answer);
+    let s = image_layout::settled(image, c, answer);
+    let r = pack(answer, s.exception);
     if answer.code != 0 {
         return r;
     }
@@ -196,6 +203,7 @@ pub fn keep(
         waiter,
         clock,
         started,
+        s.pending,
     );
     r
 }

@@ -1,5 +1,5 @@
 -- The image: the 512 bytes that a state is written as for C hosts. docs/IMAGE.md has the same, byte by byte.
-use Prim.Native.Nat.{ℕ, zero, suc}
+use Prim.Native.Nat.{ℕ, zero, suc, _+_, _*_, _/_, _%_}
 use mathlib.Core.Bool.{Bool, cond, _&&_}
 use mathlib.Core.List.{List, [], _∷_, _++_}
 use lib.Dec.{eqb, leb}
@@ -8,7 +8,9 @@ use Rattle.rules.specs.Line.{one-if}
 use Rattle.kernel_line.specs.Tables.{zeros}
 use Rattle.record.specs.Form.{le8, ofLe}
 use Rattle.kernel.specs.declared.Kernel.{Kernel}
-use Rattle.kernel.specs.Public.{isSound}
+use Rattle.rules_exceptions.specs.Exceptions.{pending-sound}
+use Rattle.kernel_state.specs.declared.State.{State}
+use Rattle.kernel_state.specs.Public.{isSound}
 
 -- The length of an image.
 abbrev pub imageBytes : ℕ
@@ -27,21 +29,26 @@ numbersOf (suc n) s = ofLe s 0 ∷ numbersOf n (drop 8 s)
 abbrev pub flags : Bool → List ℕ
 flags started = one-if started ∷ replicate 7 0
 
--- A table of 32 spare bytes: the first (192) for the tasks' pending exceptions.
+-- The pending exceptions as a number of 4 bytes, least first (bit t is task t's), and 28 spare bytes.
+abbrev pub exceptions : ℕ → List ℕ
+exceptions p = p % 256 ∷ p / 256 % 256 ∷ p / 65536 % 256 ∷ p / 16777216 % 256 ∷ replicate 28 0
+
+-- A table of 32 spare bytes.
 abbrev pub spare : List ℕ
 spare = replicate 32 0
 
 -- The image of a state: its parts from byte 0, 8, 16, 24, then 32, 64, 96, 128, 160, 192, 224 and 256 on.
-unfoldable pub imageOf : Kernel → List ℕ
-imageOf k =
-    le8 (k .clock) ++ flags (k .started) ++ k .ceiling ++ k .waiter ++
-    k .base ++ k .ready ++ k .delayed ++ k .held ++ k .way ++ spare ++ spare ++ bytesOf (k .until)
+unfoldable pub imageOf : State → List ℕ
+imageOf s =
+    let k = s .kernel in
+    le8 (k .clock) ++ flags (k .started) ++ k .ceiling ++ k .waiter ++ k .base ++ k .ready ++ k .delayed
+    ++ k .held ++ k .way ++ exceptions (s .pending) ++ spare ++ bytesOf (k .until)
 
 -- n bytes from an index on.
 abbrev pub part : ℕ → ℕ → List ℕ → List ℕ
 part n at s = take n (drop at s)
 
--- The state that bytes hold, whatever it is.
+-- The tables that bytes hold, whatever they are.
 unfoldable pub kernelOf : List ℕ → Kernel
 kernelOf s = record {
   base = part 32 32 s;
@@ -56,9 +63,20 @@ kernelOf s = record {
   started = eqb (getD s 8 0) 1;
 }
 
+-- The pending exceptions that bytes hold: the number of the 4 bytes from 192 on.
+unfoldable pub pendingOf : List ℕ → ℕ
+pendingOf s = getD s 192 0 + 256 * getD s 193 0 + 65536 * getD s 194 0 + 16777216 * getD s 195 0
+
+-- Tables with what is pending, as one state; and the state that bytes hold, whatever it is.
+abbrev pub with-pending : Kernel → ℕ → State
+with-pending k p = record { kernel = k; pending = p }
+
+abbrev pub stateOf : List ℕ → State
+stateOf s = with-pending (kernelOf s) (pendingOf s)
+
 -- What the state does not use is as it must be: byte 8 is 0 or 1, and every spare byte is 0.
 unfoldable pub clean : List ℕ → Bool
-clean s = leb (getD s 8 0) 1 && zeros (part 7 9 s) && zeros (part 32 192 s) && zeros (part 32 224 s)
+clean s = leb (getD s 8 0) 1 && zeros (part 7 9 s) && zeros (part 28 196 s) && zeros (part 32 224 s)
 
 -- So many bytes, of which a state can be read.
 unfoldable pub formed : List ℕ → Bool
@@ -66,12 +84,17 @@ formed s = eqb (length s) imageBytes && clean s
 
 -- An image: such bytes, whose state is sound.
 unfoldable pub isImage : List ℕ → Bool
-isImage s = formed s && isSound (kernelOf s)
+isImage s = formed s && isSound (stateOf s)
 
--- Read into tables that held k: bytes of which no state can be read leave them as they are.
+-- Such bytes, whose pending exceptions are sound: what is asked before the tables are read (proofs/Asked: the tables
+-- decide the rest).
+unfoldable pub readable : List ℕ → Bool
+readable s = formed s && pending-sound (kernelOf s .started) (kernelOf s .base) (pendingOf s)
+
+-- Read into tables that held k: bytes that are not so leave them as they are.
 abbrev pub readOf : List ℕ → Kernel → Kernel
-readOf s k = cond (formed s) (kernelOf s) k
+readOf s k = cond (readable s) (kernelOf s) k
 
 -- Laid out in bytes s: bytes of another length stay as they are.
-abbrev pub laid : List ℕ → Kernel → List ℕ
+abbrev pub laid : List ℕ → State → List ℕ
 laid s k = cond (eqb (length s) imageBytes) (imageOf k) s

@@ -7,10 +7,20 @@ ghost use Prim.Native.Nat.{_+_, _≤_, _<_};
 ghost use lib.ListN.{length, take, drop};
 ghost use Rattle.rules.specs.Line.{one-if};
 ghost use Rattle.record.specs.Form.{le8, ofLe};
+ghost use Rattle.kernel.specs.Public.{to-rules};
 ghost use Rattle.kernel.specs.Step.{tables};
-ghost use Rattle.image_form.specs.Layout.{imageBytes, bytesOf, numbersOf, flags, spare, part, clean, formed, readOf};
-ghost use Rattle.image_form.specs.Layout.{laid};
+ghost use Rattle.image_form.specs.Layout.{imageBytes, bytesOf, numbersOf, flags, exceptions, spare, part, pendingOf};
+ghost use Rattle.image_form.specs.Layout.{with-pending, clean, readable, readOf, laid};
+ghost use Rattle.image_layout.specs.Settled.{settledIn};
+use kernel::Answer;
+use kernel::Command;
+use kernel::TaskID;
 use kernel_order::is_free;
+use kernel_state::Settled;
+use kernel_state::pending_sound;
+use kernel_state::settle;
+use kernel_state::whose;
+use numbers::wide32;
 use record_bytes::number_bytes;
 use record_bytes::number_of;
 
@@ -23,7 +33,7 @@ fn is_clean(s: &[u8]) -> bool
     requires { ⌜ length (now s) ≡ imageBytes ⌝ }
     ensures { λ r. ⌜ r ≡ clean (now (s .entry)) ⌝ }
 {
-    (s[8] <= 1) & is_free(&s[9..16]) & is_free(&s[192..224]) & is_free(&s[224..256])
+    (s[8] <= 1) & is_free(&s[9..16]) & is_free(&s[196..224]) & is_free(&s[224..256])
 }
 
 // ---- Reading: each part by itself, into an array of its own, which LLVM knows to lie apart: so it makes a memory
@@ -80,8 +90,29 @@ fn get_times(s: &[u8]) -> [u64; 32]
     r
 }
 
-// The state that the bytes hold, into tables that are lent. Bytes of which none can be read leave the tables as they
-// are.
+// The pending exceptions: the number of the 4 bytes from 192 on.
+fn pending_at(s: &[u8]) -> u32
+    requires { ⌜ length (now s) ≡ imageBytes ⌝ }
+    ensures { λ r. ⌜ r ≡ pendingOf (now (s .entry)) ⌝ }
+{
+    wide32(s[192]) + 256 * wide32(s[193]) + 65536 * wide32(s[194]) + 16777216 * wide32(s[195])
+}
+
+// Whether the tables may be read: of the state the pending exceptions alone are tested here, since the kernel does not
+// see them.
+fn is_readable(s: &[u8]) -> bool
+    requires { ⌜ length (now s) ≡ imageBytes ⌝ }
+    ensures { λ r. ⌜ r ≡ readable (now (s .entry)) ⌝ }
+{
+    if !is_clean(s) {
+        return false;
+    }
+    let base = get32(s, 32);
+    pending_sound(&base, s[8] == 1, pending_at(s))
+}
+
+// The tables that the bytes hold, into tables that are lent. Bytes of which none can be read, or whose pending
+// exceptions are not sound, leave the tables as they are.
 pub fn read(
     s: &[u8],
     base: &mut [u8; 32],
@@ -95,7 +126,7 @@ pub fn read(
     clock: &mut u64,
     started: &mut bool,
 ) -> bool
-    ensures { λ r. ⌜ (r ≡ formed (now (s .entry)))
+    ensures { λ r. ⌜ (r ≡ readable (now (s .entry)))
         × (tables (now (base .exit)) (now (ready .exit)) (now (delayed .exit)) (now (held .exit)) (now (way .exit))
         (now (until .exit)) (now (ceiling .exit)) (now (waiter .exit)) (now (clock .exit)) (now (started .exit))
         ≡ readOf (now (s .entry))
@@ -106,7 +137,7 @@ pub fn read(
     if s.len() != IMAGE_BYTES {
         return false;
     }
-    if !is_clean(s) {
+    if !is_readable(s) {
         return false;
     }
     *clock = number_at(s, 0);
@@ -120,6 +151,20 @@ pub fn read(
     *way = get32(s, 160);
     *until = get_times(s);
     true
+}
+
+// What an answer of the kernel's step, to a command, does to the pending exceptions that the bytes hold; and whether it
+// shows one. Byte 64 is the task that ran before it. Bytes of another length hold none.
+pub fn settled(s: &[u8], c: Command, answer: Answer) -> Settled
+    ensures { λ r. ⌜ r ≡ settledIn (now (s .entry)) (to-rules c) answer ⌝ }
+{
+    if s.len() == IMAGE_BYTES {
+        return settle(pending_at(s), whose(c), TaskID(s[64]), answer);
+    }
+    Settled {
+        pending: 0,
+        exception: false,
+    }
 }
 
 // ---- Writing: what is written so far grows at its end. Parts are handed over by value, for the same reason.
@@ -198,7 +243,19 @@ fn put_head(s: &mut [u8], ceiling: &[u8; 8], waiter: &[u8; 8], clock: u64, start
     put8(s, 24, *waiter);
 }
 
-// The tables of bytes, and those that are spare: up to byte 255.
+// The pending exceptions' 4 bytes, and those that are spare behind them.
+fn exceptions(p: u32) -> [u8; 32]
+    ensures { λ r. ⌜ r ≡ exceptions p ⌝ }
+{
+    let mut r = [0u8; 32];
+    r[0] = (p % 256) as u8;
+    r[1] = (p / 256 % 256) as u8;
+    r[2] = (p / 65536 % 256) as u8;
+    r[3] = (p / 16777216 % 256) as u8;
+    r
+}
+
+// The tables of bytes, the pending exceptions, and what is spare: up to byte 255.
 fn put_tables(
     s: &mut [u8],
     base: &[u8; 32],
@@ -206,23 +263,24 @@ fn put_tables(
     delayed: &[u8; 32],
     held: &[u8; 32],
     way: &[u8; 32],
+    pending: u32,
 )
     requires { ⌜ length (now s) ≡ imageBytes ⌝ }
     ensures { λ _. ⌜ (length (now (s .exit)) ≡ imageBytes)
         × (take 256 (now (s .exit)) ≡ take 32 (now (s .entry)) ++ now (base .entry) ++ now (ready .entry)
-        ++ now (delayed .entry) ++ now (held .entry) ++ now (way .entry) ++ spare ++ spare) ⌝ }
+        ++ now (delayed .entry) ++ now (held .entry) ++ now (way .entry) ++ exceptions pending ++ spare) ⌝ }
 {
     put32(s, 32, *base);
     put32(s, 64, *ready);
     put32(s, 96, *delayed);
     put32(s, 128, *held);
     put32(s, 160, *way);
-    put32(s, 192, [0; 32]);
+    put32(s, 192, exceptions(pending));
     put32(s, 224, [0; 32]);
 }
 
-// The image of the state that the tables are, whatever the 512 bytes held. Bytes of another length are left as they
-// are.
+// The image of the state that the tables and the pending exceptions are, whatever the 512 bytes held. Bytes of another
+// length are left as they are.
 pub fn lay(
     image: &mut [u8],
     base: &[u8; 32],
@@ -235,16 +293,17 @@ pub fn lay(
     waiter: &[u8; 8],
     clock: u64,
     started: bool,
+    pending: u32,
 )
     ensures { λ _. ⌜ now (image .exit)
-        ≡ laid (now (image .entry))
+        ≡ laid (now (image .entry)) (with-pending
         (tables (now (base .entry)) (now (ready .entry)) (now (delayed .entry)) (now (held .entry)) (now (way .entry))
-        (now (until .entry)) (now (ceiling .entry)) (now (waiter .entry)) clock started) ⌝ }
+        (now (until .entry)) (now (ceiling .entry)) (now (waiter .entry)) clock started) pending) ⌝ }
 {
     if image.len() != IMAGE_BYTES {
         return;
     }
     put_head(image, ceiling, waiter, clock, started);
-    put_tables(image, base, ready, delayed, held, way);
+    put_tables(image, base, ready, delayed, held, way, pending);
     put_times(image, until);
 }

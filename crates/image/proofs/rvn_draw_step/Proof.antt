@@ -22,7 +22,7 @@ same-length c = search needs
 returns : tie.Need-returns
 returns c =
     let leaving = c .before in
-    let keeping = leaving .before .before .before .before .before .before .before in
+    let keeping = leaving .before .before .before .before .before .before in
     let a = keeping .before .before .before .before .before .before .before .before .before .before .before .before .before .before .before .before .args in
     let w = keeping .draw-and-keep .ensures in
     draw-step-ends (a .image .now) _ (a .seed .now) (a .span) (a .weights .now) (a .value .now) (keeping .before .profile .ensures) (w .0) (w .1)

@@ -2,7 +2,8 @@
 use borrow.Author.Needs.{needs}
 use borrow.Author.Tests.{eq-eqb, ne-eqb}
 use lib.ListN.{length}
-use Rattle.kernel.specs.View.{encode}
+use Rattle.kernel.specs.View as K
+use Rattle.kernel_state.specs.Public.{encode}
 use Rattle.image_calls.specs.Calls.{freshAnswer, freshImage}
 use Rattle.image.proofs.rvn_fresh.Statement.{statement}
 use Rattle.image.proofs.rvn_fresh.Tie as tie
@@ -19,7 +20,7 @@ same-length : tie.Need-same-length
 same-length c = search needs
 
 returns-2 : tie.Need-returns-2
-unfolding freshAnswer freshImage encode
+unfolding freshAnswer freshImage encode K.encode
 returns-2 c =
     let laid = c .before .before in
     let test = laid .before .before .before .before .before .before .before .before .before .before in

@@ -20,9 +20,6 @@ returns c =
     let d = drawn .before .before .args .d in
     rw (ne-eqb (d .code) 0 (c .if1 .taken)) (drawn .wider .ensures .0 ∙ drawn .before .pack-drawn .ensures ∙ sym (add-zero (packedDrawn d)))
 
-pack-requires : tie.Need-pack-requires
-pack-requires c κs = search needs
-
 wider-requires-2 : tie.Need-wider-requires-2
 wider-requires-2 c κs = search needs
 
@@ -34,11 +31,11 @@ add-result c = search needs
 
 returns-2 : tie.Need-returns-2
 returns-2 c =
-    let test = c .before .before in
+    let test = c .before in
     let drawn = test .before in
     let d = drawn .before .before .args .d in
     rw (eq-eqb (d .code) 0 (test .if1 .left))
-    (same-halves (drawn .wider .ensures .0 ∙ drawn .before .pack-drawn .ensures) (c .wider2 .ensures .0 ∙ c .before .pack .ensures))
+    (same-halves (drawn .wider .ensures .0 ∙ drawn .before .pack-drawn .ensures) (c .wider2 .ensures .0))
 
 pub pack-both-spec : {M : Type 1} → statement M
 pack-both-spec =
@@ -47,7 +44,6 @@ pack-both-spec =
     pack-drawn-requires
     wider-requires
     returns
-    pack-requires
     wider-requires-2
     mul-result
     add-result

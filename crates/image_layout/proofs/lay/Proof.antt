@@ -5,7 +5,7 @@ use mathlib.Core.Path.{ap, _∙_}
 use mathlib.Core.List.{List, _++_}
 use Prim.Native.Nat.{ℕ}
 use lib.ListN.{length}
-use Rattle.image_form.specs.Layout.{bytesOf, spare, imageOf}
+use Rattle.image_form.specs.Layout.{bytesOf, exceptions, spare, imageOf}
 use Rattle.image_layout.proofs.lay.Statement.{statement}
 use Rattle.image_layout.proofs.lay.Tie as tie
 
@@ -32,7 +32,8 @@ returns-2 c =
     let head = bytes .before .before .before .before in
     let test = head .before .before in
     let a = test .before .before .args in
-    let tables : List ℕ → List ℕ = λ l. l ++ (a .base .now) ++ (a .ready .now) ++ (a .delayed .now) ++ (a .held .now) ++ (a .way .now) ++ spare ++ spare in
+    let tables : List ℕ → List ℕ =
+    λ l. l ++ (a .base .now) ++ (a .ready .now) ++ (a .delayed .now) ++ (a .held .now) ++ (a .way .now) ++ exceptions (a .pending) ++ spare in
     rw (eq-eqb (length (a .image .now)) 512 (test .if1 .left))
     (times .put-times .ensures .1 ∙ ap (λ (l : List ℕ). l ++ bytesOf (a .until .now)) (bytes .put-tables .ensures .1 ∙ ap tables (head .put-head .ensures .1)))
 

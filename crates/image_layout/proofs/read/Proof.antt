@@ -1,31 +1,27 @@
 -- `read` meets its contract: each exit by its tests, and each part is read as its contract says. Assumes nothing.
 use borrow.Author.Needs.{needs}
-use borrow.Author.Tests.{eq-eqb, ne-eqb, not-true, not-false}
+use borrow.Author.Tests.{ne-eqb, not-true, not-false}
 use mathlib.Core.Path.{_≡_, refl, sym, _∙_}
-use mathlib.Core.Bool.{true, false, and-false}
-use lib.Dec.{eqb}
+use mathlib.Core.Bool.{false}
 use lib.ListN.{length}
-use Rattle.image_form.specs.Layout.{kernelOf, clean, formed}
+use Rattle.image_form.specs.Layout.{kernelOf, formed, readable}
 use Rattle.image_form.proofs.RoundTrip.{made}
 use Rattle.image_layout.proofs.read.Statement.{statement}
 use Rattle.image_layout.proofs.read.Tie as tie
 
 returns : tie.Need-returns
-unfolding formed
+unfolding formed readable
 returns c =
     let s = c .before .before .args .s .now in
-    let e : formed s ≡ false = rw (ne-eqb (length s) 512 (c .if1 .taken)) in
+    let e : readable s ≡ false = rw (ne-eqb (length s) 512 (c .if1 .taken)) in
     (sym e, rw e)
 
-is-clean-requires : tie.Need-is-clean-requires
-is-clean-requires c κs = search needs
+is-readable-requires : tie.Need-is-readable-requires
+is-readable-requires c κs = search needs
 
 returns-2 : tie.Need-returns-2
-unfolding formed
 returns-2 c =
-    let s = c .before .before .before .before .args .s .now in
-    let unclean : clean s ≡ false = sym (c .before .is-clean .ensures) ∙ not-true _ (c .if2 .taken) in
-    let e : formed s ≡ false = rw unclean (and-false (eqb (length s) 512)) in
+    let e = sym (c .before .is-readable .ensures) ∙ not-true _ (c .if2 .taken) in
     (sym e, rw e)
 
 number-at-requires : tie.Need-number-at-requires
@@ -59,7 +55,7 @@ get-times-requires : tie.Need-get-times-requires
 get-times-requires c κs = search needs
 
 returns-3 : tie.Need-returns-3
-unfolding formed kernelOf
+unfolding kernelOf
 returns-3 c =
     let way = c .before in
     let held = way .before in
@@ -70,10 +66,7 @@ returns-3 c =
     let ceiling = waiter .before in
     let clock = ceiling .before .before in
     let test = clock .before in
-    let length-test = test .before .before in
-    let s = length-test .before .before .args .s .now in
-    let cleaned : clean s ≡ true = sym (test .before .is-clean .ensures) ∙ not-false _ (test .if2 .left) in
-    let e : formed s ≡ true = rw (eq-eqb (length s) 512 (length-test .if1 .left)) cleaned in (
+    let e = sym (test .before .is-readable .ensures) ∙ not-false _ (test .if2 .left) in (
       sym e,
       rw e
           (made (base .get32 .ensures) (ready .get322 .ensures) (delayed .get323 .ensures) (held .get324 .ensures) (way .get325 .ensures)
@@ -86,7 +79,7 @@ read-spec =
     tie.close
     (tie.spec
     returns
-    is-clean-requires
+    is-readable-requires
     returns-2
     number-at-requires
     shared-slice-read-started
