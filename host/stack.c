@@ -49,12 +49,26 @@ static void make_call(void)
     }
 }
 
-/* Makes the call on the painted stack, and keeps how many of its bytes were written at most. */
+/* How many bytes from the stack's end on are painted still. By eight at a time first: most of the stack is never written, and all of it is looked at. */
+static size_t still_painted(void)
+{
+    const uint64_t eight = UINT64_MAX / 255 * PAINT;
+    uint64_t seen = eight;
+    size_t n = 0;
+    for (; n < sizeof stack && seen == eight; n += sizeof seen)
+        memcpy(&seen, stack + n, sizeof seen);
+    if (seen != eight)
+        n -= sizeof seen;
+    while (n < sizeof stack && stack[n] == PAINT)
+        n++;
+    return n;
+}
+
+/* Makes the call on the painted stack, and keeps how many of its bytes were written at most. Then those are painted again. */
 static void measure(enum call call)
 {
-    size_t free_bytes = 0;
+    size_t free_bytes;
     now = call;
-    memset(stack, PAINT, sizeof stack);
     if (getcontext(&called) != 0)
         exit(1);
     called.uc_stack.ss_sp = stack;
@@ -63,8 +77,8 @@ static void measure(enum call call)
     makecontext(&called, make_call, 0);
     if (swapcontext(&host, &called) != 0)
         exit(1);
-    while (free_bytes < sizeof stack && stack[free_bytes] == PAINT)
-        free_bytes++;
+    free_bytes = still_painted();
+    memset(stack + free_bytes, PAINT, sizeof stack - free_bytes);
     if (most[call] < sizeof stack - free_bytes)
         most[call] = sizeof stack - free_bytes;
 }
@@ -183,6 +197,7 @@ static void judge_a_run(void)
 int main(void)
 {
     int fits = 1;
+    memset(stack, PAINT, sizeof stack);
     measure(NOTHING);
     for (int i = 0; i < ROUNDS; i++) {
         set_up();
