@@ -30,7 +30,7 @@ use Rattle.generator.specs.Public.{drawnOf, refusedOf, behindDraw, answerTo, ca
 use Rattle.generator_evenly.specs.declared.Drawn as counted
 use Rattle.generator_evenly.specs.Public.{bare}
 use Rattle.generator_evenly.specs.Public as evenly
-use Rattle.image_form.specs.Layout.{imageOf, kernelOf, pendingOf, with-pending, stateOf, clean, formed, isImage, readable}
+use Rattle.image_form.specs.Layout.{imageOf, kernelOf, pendingOf, stateOf, clean, formed, isImage, readable}
 use Rattle.image_form.proofs.Parts.{part-at}
 use Rattle.image_form.proofs.Asked.{asked}
 use Rattle.image_layout.specs.Settled.{settledIn}
@@ -95,8 +95,8 @@ module _ (s : List ℕ) (c : Command) (h : readable s ≡ true) where
   answers-so : toldIn s c (behind .answer) ≡ packed (whole.stepOf (stateOf s) c .answer)
   answers-so = ap (λ (z : Settled). packed (shown (behind .answer) (z .exception))) settles-so ∙ ap (λ (r : whole-stepped.Stepped). packed (r .answer)) steps-so
 
-  leaves-so : with-pending (behind .next) (settledIn s c (behind .answer) .pending) ≡ whole.stepOf (stateOf s) c .next
-  leaves-so = ap (λ (z : Settled). with-pending (behind .next) (z .pending)) settles-so ∙ ap (λ (r : whole-stepped.Stepped). r .next) steps-so
+  leaves-so : whole.both (behind .next) (settledIn s c (behind .answer) .pending) ≡ whole.stepOf (stateOf s) c .next
+  leaves-so = ap (λ (z : Settled). whole.both (behind .next) (z .pending)) settles-so ∙ ap (λ (r : whole-stepped.Stepped). r .next) steps-so
 
   code-so : behind .answer .code ≡ whole.stepOf (stateOf s) c .answer .code
   code-so = ap (λ (r : whole-stepped.Stepped). r .answer .code) steps-so

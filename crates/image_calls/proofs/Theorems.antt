@@ -34,7 +34,7 @@ use Rattle.kernel.proofs.Written.{stands}
 use Rattle.kernel.proofs.Written as tables
 use Rattle.kernel_state.specs.declared.State as whole
 use Rattle.kernel_state.specs.declared.Answer.{Answer}
-use Rattle.kernel_state.specs.Public.{encode, isSound, stepOf}
+use Rattle.kernel_state.specs.Public.{encode, isSound, answerOf, stepOf}
 use Rattle.generator.specs.declared.Profile.{Profile}
 use Rattle.generator.specs.declared.Drawn.{Drawn}
 use Rattle.generator_draws.specs.Below.{even}
@@ -117,7 +117,7 @@ steps-state k c e =
 -- The same in the words of document 01's machine with its pending exceptions: the image of a sound one is stepped to the image of the one after the command,
 -- and the answer is the rules', in one number.
 abbrev pub answered : told-by.Answer → ℕ
-answered a = packed (record { code = a .code; running = record { 0 = a .running }; released = record { 0 = a .released }; exception = a .exception })
+answered a = packed (answerOf (a .code) (a .running) (a .released) (a .exception))
 
 pub steps-machine : (m : State) (c : Command) → sound m ≡ true
     → (stepAnswer (imageOf (encode m)) c ≡ answered (answer m c)) × (stepImage (imageOf (encode m)) c ≡ imageOf (encode (next m c)))

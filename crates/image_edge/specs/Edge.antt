@@ -7,8 +7,9 @@ use Rattle.rules.specs.Machine.{Command}
 use Rattle.kernel.specs.declared.Kernel.{Kernel}
 use Rattle.kernel.specs.declared.command.Answer.{Answer}
 use Rattle.kernel_state.specs.declared.Answer as whole
+use Rattle.kernel_state.specs.Public.{both}
 use Rattle.generator.specs.declared.Drawn.{Drawn}
-use Rattle.image_form.specs.Layout.{with-pending, laid}
+use Rattle.image_form.specs.Layout.{laid}
 use Rattle.image_layout.specs.Settled.{settledIn}
 use Rattle.image_calls.specs.Calls.{packed, packedDrawn}
 
@@ -22,7 +23,7 @@ toldIn s c a = packed (shown a (settledIn s c a .exception))
 
 -- The image: the tables laid out in the bytes, with what is pending then, where the answer is no refusal.
 abbrev pub imageLeft : List ℕ → Kernel → Command → Answer → List ℕ
-imageLeft s k c a = cond (eqb (a .code) 0) (laid s (with-pending k (settledIn s c a .pending))) s
+imageLeft s k c a = cond (eqb (a .code) 0) (laid s (both k (settledIn s c a .pending))) s
 
 -- The seed: that of a draw that is made. (The value that is left: image_calls/specs/Calls.)
 abbrev pub seedLeft : Drawn → ℕ → ℕ

@@ -50,6 +50,10 @@ pending-back p h =
     sum : (p q r s a b c d : ℕ) → p ≡ a + 256 * q → q ≡ b + 256 * r → r ≡ c + 256 * s → d ≡ s → a + 256 * b + 65536 * c + 16777216 * d ≡ p
     sum p q r s a b c d e f g h = omega arith
 
+-- least byte first, by computing: 67305985 is 1 + 256 * 2 + 65536 * 3 + 16777216 * 4
+pub least-first : exceptions 67305985 ≡ 1 ∷ 2 ∷ 3 ∷ 4 ∷ replicate 28 0
+least-first = refl
+
 regrouped : (a b c d e f g h i j k l : List ℕ)
     → a ++ b ++ c ++ d ++ e ++ f ++ g ++ h ++ i ++ j ++ k ++ l ≡ a ++ (b ++ (c ++ (d ++ (e ++ (f ++ (g ++ (h ++ (i ++ (j ++ (k ++ l))))))))))
 regrouped a b c d e f g h i j k l = simp append-assoc

@@ -10,7 +10,7 @@ use Rattle.record.specs.Form.{le8, ofLe}
 use Rattle.kernel.specs.declared.Kernel.{Kernel}
 use Rattle.rules_exceptions.specs.Exceptions.{pending-sound}
 use Rattle.kernel_state.specs.declared.State.{State}
-use Rattle.kernel_state.specs.Public.{isSound}
+use Rattle.kernel_state.specs.Public.{both, isSound}
 
 -- The length of an image.
 abbrev pub imageBytes : ℕ
@@ -67,12 +67,9 @@ kernelOf s = record {
 unfoldable pub pendingOf : List ℕ → ℕ
 pendingOf s = getD s 192 0 + 256 * getD s 193 0 + 65536 * getD s 194 0 + 16777216 * getD s 195 0
 
--- Tables with what is pending, as one state; and the state that bytes hold, whatever it is.
-abbrev pub with-pending : Kernel → ℕ → State
-with-pending k p = record { kernel = k; pending = p }
-
+-- The state that bytes hold, whatever it is.
 abbrev pub stateOf : List ℕ → State
-stateOf s = with-pending (kernelOf s) (pendingOf s)
+stateOf s = both (kernelOf s) (pendingOf s)
 
 -- What the state does not use is as it must be: byte 8 is 0 or 1, and every spare byte is 0.
 unfoldable pub clean : List ℕ → Bool

@@ -9,8 +9,9 @@ ghost use Rattle.rules.specs.Line.{one-if};
 ghost use Rattle.record.specs.Form.{le8, ofLe};
 ghost use Rattle.kernel.specs.Public.{to-rules};
 ghost use Rattle.kernel.specs.Step.{tables};
+ghost use Rattle.kernel_state.specs.Public.{both};
 ghost use Rattle.image_form.specs.Layout.{imageBytes, bytesOf, numbersOf, flags, exceptions, spare, part, pendingOf};
-ghost use Rattle.image_form.specs.Layout.{with-pending, clean, readable, readOf, laid};
+ghost use Rattle.image_form.specs.Layout.{clean, readable, readOf, laid};
 ghost use Rattle.image_layout.specs.Settled.{settledIn};
 use kernel::Answer;
 use kernel::Command;
@@ -296,7 +297,7 @@ pub fn lay(
     pending: u32,
 )
     ensures { λ _. ⌜ now (image .exit)
-        ≡ laid (now (image .entry)) (with-pending
+        ≡ laid (now (image .entry)) (both
         (tables (now (base .entry)) (now (ready .entry)) (now (delayed .entry)) (now (held .entry)) (now (way .entry))
         (now (until .entry)) (now (ceiling .entry)) (now (waiter .entry)) clock started) pending) ⌝ }
 {

@@ -4,8 +4,9 @@ use borrow.Author.Tests.{eq-eqb, ne-eqb}
 use mathlib.Core.Path.{ap, _∙_}
 use Rattle.kernel.specs.Step.{tables}
 use Rattle.kernel_state.specs.declared.Settled.{Settled}
+use Rattle.kernel_state.specs.Public.{both}
 use Rattle.image_calls.specs.Calls.{packed}
-use Rattle.image_form.specs.Layout.{with-pending, laid}
+use Rattle.image_form.specs.Layout.{laid}
 use Rattle.image_edge.specs.Edge.{shown}
 use Rattle.image_edge.proofs.keep.Statement.{statement}
 use Rattle.image_edge.proofs.keep.Tie as tie
@@ -45,7 +46,7 @@ returns-2 c =
     (a .started) in (
       packing .pack .ensures ∙ ap (λ (s : Settled). packed (shown (a .answer) (s .exception))) (settling .settled .ensures),
       rw (eq-eqb (a .answer .code) 0 (test .if1 .left))
-          (laying .lay .ensures ∙ ap (λ (s : Settled). laid (a .image .now) (with-pending k (s .pending))) (settling .settled .ensures)),
+          (laying .lay .ensures ∙ ap (λ (s : Settled). laid (a .image .now) (both k (s .pending))) (settling .settled .ensures)),
     )
 
 pub keep-spec : {M : Type 1} → statement M
