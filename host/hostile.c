@@ -1,7 +1,7 @@
 /*
  * A hostile host: the table of kernel_cases, which is its argument, on images; then a million calls in all, with images of every length 0..1025,
  * random bytes, single spoilt bytes of good images, states that no command leads to, started and not, every bit of the pending exceptions, null
- * where the length is 0, operands of every width, seeds and profiles good and bad, at every entry point. Each answer and every byte afterwards are
+ * where the length is 0, operands of every width, seeds and profiles good and bad, at every entry point but rvn_draw_even. Each answer and every byte afterwards are
  * held to reading.h; the bytes stand between guard bytes, at any alignment, and what else is lent between guards too. Whatever a call may not write
  * is lent read-only: all of a refused call's, and an image that is only asked or drawn for. The seed is fixed, so that a run that fails once fails
  * again. Prints one line of counts by code.
@@ -344,7 +344,7 @@ static void put_pending(uint8_t *image, uint32_t bits)
         image[192 + i] = (uint8_t)(bits >> 8 * i);
 }
 
-/* Each entry point on the image with these bits, and each op: with an operand that fits, so that some are accepted where the state is sound. */
+/* Each entry point (but rvn_draw_even) on the image with these bits, and each op: with an operand that fits, so that some are accepted where the state is sound. */
 static void try_pending(const uint8_t *bytes, uint32_t bits)
 {
     uint8_t image[512];
@@ -441,7 +441,7 @@ static void set_cell(uint8_t *image, const char *table, uint64_t i, uint64_t val
             image[(uint64_t)tables[k].at + i] = (uint8_t)value;
 }
 
-/* A state of the table, at every entry point. What its line says of it, reading.h says too. */
+/* A state of the table, at every entry point but rvn_draw_even. What its line says of it, reading.h says too. */
 static void try_state(const uint8_t *bytes, int is_sound, const char *line)
 {
     struct machine m;

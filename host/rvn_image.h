@@ -157,7 +157,7 @@ uint64_t rvn_draw_step(uint8_t *image, size_t length, uint32_t *seed, uint64_t s
 #define RVN_RELEASED(answer) (((answer) >> 16) & 255u) /* the released task, 0 for nobody */
 /* Set in an answer of rvn_step that shows an exception of the running task: answer & RVN_EXCEPTION. An exception that an op of 12..15 sets for a task
  * is shown once, by the first accepted answer that names the task as running, the op's own included; until then the image keeps it, and a second
- * one for that task adds nothing. A refusal never has it. (Of rvn_draw the same bit is one of b's; of rvn_draw_step it stands in RVN_STEPPED(answer).) */
+ * one for that task adds nothing. A refusal never has it. (Of rvn_draw and rvn_draw_even the same bit is one of b's; of rvn_draw_step it stands in RVN_STEPPED(answer).) */
 #define RVN_EXCEPTION 16777216u
 #define RVN_COUNT(answer) (((answer) >> 8) & 255u)     /* of rvn_wakes_left */
 #define RVN_OP(answer) (((answer) >> 8) & 255u)        /* of rvn_draw: the op, 0 where it is refused */

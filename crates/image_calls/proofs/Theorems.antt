@@ -55,7 +55,8 @@ use Rattle.image_calls.specs.Calls.{told, packed, stepAnswer, stepImage,
 use Rattle.image_calls.specs.Calls.{toldProfile, drawOn, packedDrawn, drawAnswer, drawSeed, drawValue, drawStepAnswer, drawStepImage}
 use Rattle.image_calls.specs.Calls.{drawEvenOn, packedEven, drawEvenAnswer, drawEvenSeed, drawEvenValue}
 use Rattle.image_form.proofs.RoundTrip.{Bytes, image-size, image-back, bytes-are}
-use Rattle.image_calls.proofs.Whole.{tables-sound, pending-few, encode-sound, step-on, step-sound, refused-keeps, same-code, answer-small}
+use Rattle.kernel_state.proofs.Written.{tables-sound, pending-few, encode-sound, step-on, step-sound, refused-keeps, same-code}
+use Rattle.image_calls.proofs.Whole.{answer-small}
 
 -- A sound state's times are numbers of 64 bits.
 all-zero : (n : ℕ) → All (λ x. x < 2 ^ 64) (replicate n 0)
@@ -112,7 +113,7 @@ steps-state k c e =
   where
     go : (b : Bool) → eqb (stepOf k c .answer .code) 0 ≡ b → cond b (imageOf (stepOf k c .next)) (imageOf k) ≡ imageOf (stepOf k c .next)
     go true q = refl
-    go false q = ap imageOf (sym (refused-keeps k c e (λ z. true≢false (sym (eq-eqb _ 0 z) ∙ q)) .0))
+    go false q = ap imageOf (sym (refused-keeps k c (λ z. true≢false (sym (eq-eqb _ 0 z) ∙ q)) .0))
 
 -- The same in the words of document 01's machine with its pending exceptions: the image of a sound one is stepped to the image of the one after the command,
 -- and the answer is the rules', in one number.
@@ -174,7 +175,7 @@ refusal-shows-none s c = go (isImage s) refl
         let k = image-sound s e in
         let w = answer-small (stateOf s) c k in
         let u = apart (a .code) (a .running .0) (a .released .0) (one-if (a .exception)) (w .0) (w .1) (w .2) in
-        let none : one-if (a .exception) ≡ 0 = ap one-if (refused-keeps (stateOf s) c k (λ z. n (u .0 ∙ z)) .1) in
+        let none : one-if (a .exception) ≡ 0 = ap one-if (refused-keeps (stateOf s) c (λ z. n (u .0 ∙ z)) .1) in
         omega (arith, none, w .0, w .1, w .2)
     go false e n = omega arith
 

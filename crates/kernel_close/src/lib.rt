@@ -58,7 +58,7 @@ fn serve(
     t.0
 }
 
-// 8, 9 and 11, the end of a body: who waits is served first, where it serves; then the runner closes
+// 8, 9, 11 and 12 to 15, the end of a body: who waits is served first, where it serves; then the runner closes
 pub fn end(
     base: &[u8; 32],
     ready: &mut [u8; 32],

@@ -15,14 +15,12 @@ use Rattle.rules.specs.Kinds.{kind}
 use Rattle.rules.specs.Run.{accepts, released}
 use Rattle.rules.specs.Run as R
 use Rattle.rules.proofs.Words.{cmd}
-use Rattle.rules.proofs.Tests.{both-true}
-use Rattle.rules_exceptions.specs.Exceptions.{owner, whose-of, task-of, next, answer, run, fresh, sound, pending-sound}
+use Rattle.rules_exceptions.specs.Exceptions.{owner, whose-of, task-of, next, answer, run, fresh, sound}
 use Rattle.rules_exceptions.specs.Exceptions as X
 use Rattle.rules_exceptions.specs.Words.{sets, Unshown}
-use Rattle.rules_exceptions.proofs.Kept.{Sounds, tests-state, fresh-sound, next-sound, run-sound, idle-none, owner-started}
+use Rattle.rules_exceptions.proofs.Kept.{tests-state, idle-none, owner-started}
 use Rattle.rules_exceptions.proofs.Theorems as theorems
 use Rattle.kernel_checks.specs.declared.Command.{Command}
-use Rattle.kernel.specs.View.{tidy}
 use Rattle.kernel.specs.View as K
 use Rattle.kernel.specs.Public.{to-rules, runningOf}
 use Rattle.kernel.specs.declared.Kernel.{Kernel}
@@ -30,60 +28,33 @@ use Rattle.kernel.specs.declared.command.Answer as tables
 use Rattle.kernel_ready.specs.Ready.{runner-in}
 use Rattle.kernel_ready.proofs.Laws.{front-idle}
 use Rattle.kernel.specs.Public as P
-use Rattle.kernel.proofs.Round.{tests-tidy, encode-view, view-encode}
-use Rattle.kernel.proofs.Written.{encode-tidy}
 use Rattle.kernel_state.specs.declared.State.{State}
 use Rattle.kernel_state.specs.Public.{view, encode, isSound, report, shape, stepOf}
-use Rattle.kernel_state.proofs.Steps.{together, settles, sound-parts}
+use Rattle.kernel_state.proofs.Written.{written-back, machine-sound, encode-sound, step-on, step-sound, refused-keeps, alike}
 use Rattle.promises.specs.Words.{freshOf, runOf, answersOf, momentsOf}
 use Rattle.promises.specs.Exceptions.{freshState, steppedState, runState, answersState, momentsState, answerBehind, plain}
 use Rattle.promises.specs.Exceptions.{FreshStateIsSound, StateStepKeepsSound, StateRunIsSound, UnsoundStateComesBack, FreshTables, RunsMoveAlike}
 use Rattle.promises.specs.Exceptions.{ClosingsMoveAlike, SecondChangesNothing, WhoseItIs, ShownExactly, IdleShowsNone, NoneUnset, RefusedKeepsAll}
 
--- A sound state of the rules, written, is read back as it was, and is sound.
-back : (x : X.State) → Sounds x → view (encode x) ≡ x
-unfolding view encode
-back x s = rw (view-encode (x .machine) (s .machine))
-
-written-sound : (x : X.State) → Sounds x → isSound (encode x) ≡ true
-unfolding isSound encode
-written-sound x s = rw (tests-tidy (K.encode (x .machine)) .found (encode-tidy (x .machine) (s .machine))) (ap sound (back x s) ∙ tests-state x .found s)
-
--- A sound state of tables: what it stands for is sound, and written it is that state.
-pub record Stands (s : State) : Type 0 where
-  pub reads : Sounds (view s)
-  pub written : encode (view s) ≡ s
-
-stands : (s : State) → isSound s ≡ true → Stands s
-unfolding isSound encode view
-stands s e =
-    let w = both-true (tidy (s .kernel)) (sound (view s)) e in
-    record { reads = tests-state (view s) .sure (w .1); written = rw (encode-view (s .kernel) (tests-tidy (s .kernel) .sure (w .0))) }
-
--- The shipped step, a run of it and the answer behind one, from what is written.
-step-on : (x : X.State) → Sounds x → (c : Rules.Command) → stepOf (encode x) c ≡ report (encode (next x c)) (answer x c)
-unfolding stepOf
-step-on x s c = rw (written-sound x s, back x s)
-
-run-on : (cs : List Command) (x : X.State) → Sounds x → runState (encode x) cs ≡ encode (run x (map to-rules cs))
+-- a run of the shipped step, and the answer behind one, from what is written
+run-on : (cs : List Command) (x : X.State) → sound x ≡ true → runState (encode x) cs ≡ encode (run x (map to-rules cs))
 unfolding runState run
 run-on [] x s = refl
 run-on (c ∷ cs) x s =
-    ap (λ r. runState (r .next) cs) (step-on x s (to-rules c)) ∙ run-on cs (next x (to-rules c)) (next-sound x s (to-rules c))
+    ap (λ r. runState (r .next) cs) (step-on x s (to-rules c)) ∙ run-on cs (next x (to-rules c)) (theorems.step-keeps-sound x (to-rules c) s)
 
-answer-on : (x : X.State) → Sounds x → (cs : List Command) (d : Command)
+answer-on : (x : X.State) → sound x ≡ true → (cs : List Command) (d : Command)
     → answerBehind (encode x) cs d ≡ report (encode x) (answer (run x (map to-rules cs)) (to-rules d)) .answer
 answer-on x s cs d =
     ap (λ z. stepOf z (to-rules d) .answer) (run-on cs x s)
-    ∙ ap (λ r. r .answer) (step-on (run x (map to-rules cs)) (run-sound (map to-rules cs) x s) (to-rules d))
+    ∙ ap (λ r. r .answer) (step-on (run x (map to-rules cs)) (theorems.run-keeps-sound x (map to-rules cs) s) (to-rules d))
 
 pub fresh-state-is-sound : FreshStateIsSound
 unfolding freshState
-fresh-state-is-sound = written-sound fresh fresh-sound
+fresh-state-is-sound = encode-sound fresh theorems.fresh-is-sound
 
 pub state-step-keeps-sound : StateStepKeepsSound
-unfolding stepOf
-state-step-keeps-sound s c e = rw e (written-sound (next (view s) (to-rules c)) (next-sound (view s) (stands s e .reads) (to-rules c)))
+state-step-keeps-sound s c e = step-sound s (to-rules c) e
 
 pub state-run-is-sound : StateRunIsSound
 unfolding runState
@@ -97,12 +68,6 @@ unsound-state-comes-back s c e = rw e
 pub fresh-tables : FreshTables
 unfolding freshState freshOf encode
 fresh-tables = refl
-
--- the kernel's step of a sound state's tables, and what is settled by its answer
-alike : (s : State) (c : Rules.Command) → isSound s ≡ true → together (s .kernel) (s .pending) c ≡ stepOf s c
-alike s c e =
-    settles (s .kernel) (s .pending) c
-    (both-true (P.isSound (s .kernel)) (pending-sound (s .kernel .started) (s .kernel .base) (s .pending)) (sym (sound-parts (s .kernel) (s .pending)) ∙ e) .1)
 
 pub runs-move-alike : RunsMoveAlike
 unfolding runState runOf answersState answersOf momentsState momentsOf
@@ -196,38 +161,30 @@ ran s e c ok Runner q = front-idle (s .kernel .ready) ∙ go (eqb (runner m) 0) 
         same-either false = refl
     go false z =
         let n : owner m c ≢ 0 = rw q (eqb-false _ _ z) in
-        rw (owner-started m (stands s e .reads .machine) c ok n)
+        rw (owner-started m (tests-state (view s) .sure (machine-sound s e) .machine) c ok n)
 
 pub whose-it-is : WhoseItIs
 unfolding stepOf answer
 whose-it-is s c e = rw e (λ ok. ran s e (to-rules c) (eq-eqb _ 0 ok) (whose-of (kind (to-rules c))) refl)
 
 -- the promise, of a state that is written
-shown-on : (x : X.State) → Sounds x → (cs : List Command) (d : Command) → let a = answerBehind (encode x) cs d in let t = a .running .0 in
+shown-on : (x : X.State) → sound x ≡ true → (cs : List Command) (d : Command) → let a = answerBehind (encode x) cs d in let t = a .running .0 in
     t ≢ 0 → (a .exception ≡ true)
     ↔ ((a .code ≡ 0) × (Unshown t x (map to-rules cs) ⊎ (sets (run x (map to-rules cs)) (to-rules d) t ≡ true)))
 shown-on x s cs d = rw (answer-on x s cs d) (theorems.shown-exactly x (map to-rules cs) (to-rules d))
 
 pub shown-exactly : ShownExactly
-shown-exactly s cs d e =
-    let w = stands s e in
-    rw (w .written) at (shown-on (view s) (w .reads) cs d)
+shown-exactly s cs d e = rw (written-back s e) at (shown-on (view s) (machine-sound s e) cs d)
 
 pub idle-shows-none : IdleShowsNone
-idle-shows-none s cs d e = let w = stands s e in rw (w .written) at (idle-on (view s) (w .reads))
+idle-shows-none s cs d e = rw (written-back s e) at (idle-on (view s) (machine-sound s e))
   where
-    idle-on : (x : X.State) → Sounds x → answerBehind (encode x) cs d .running .0 ≡ 0 → answerBehind (encode x) cs d .exception ≡ false
-    idle-on x k = rw (answer-on x k cs d) (theorems.idle-never x (map to-rules cs) (to-rules d) (idle-none k))
+    idle-on : (x : X.State) → sound x ≡ true → answerBehind (encode x) cs d .running .0 ≡ 0 → answerBehind (encode x) cs d .exception ≡ false
+    idle-on x k = rw (answer-on x k cs d) (theorems.idle-never x (map to-rules cs) (to-rules d) (idle-none (tests-state x .sure k)))
 
 pub none-unset : NoneUnset
 unfolding freshState
-none-unset cs d = rw (answer-on fresh fresh-sound cs d) (theorems.fresh-none-unset (map to-rules cs) (to-rules d))
+none-unset cs d = rw (answer-on fresh theorems.fresh-is-sound cs d) (theorems.fresh-none-unset (map to-rules cs) (to-rules d))
 
 pub refused-keeps-all : RefusedKeepsAll
-unfolding stepOf
-refused-keeps-all s c = go (isSound s) refl
-  where
-    go : (b : Bool) → isSound s ≡ b → let r = cond b (report (encode (next (view s) (to-rules c))) (answer (view s) (to-rules c))) (report s shape) in
-        r .answer .code ≢ 0 → (r .next ≡ s) × (r .answer .exception ≡ false)
-    go true e n = let k = theorems.refused-keeps (view s) (to-rules c) n in (ap encode (k .0) ∙ stands s e .written, k .1)
-    go false e n = (refl, refl)
+refused-keeps-all s c = refused-keeps s (to-rules c)

@@ -44,7 +44,7 @@ answerBehind s cs d = steppedState (runState s cs) d .answer
 
 -- ## Soundness
 -- The fresh state is sound; a step from a sound state leaves a sound state.
--- Rules out: an exception that is left with idle or with a task that is not there. Leaves: one that does nothing (the
+-- Rules out: an exception that is left with idle or with a task that is not there. Leaves: one that is never shown (the
 -- promise below).
 abbrev pub FreshStateIsSound : Type 0
 FreshStateIsSound = isSound freshState ≡ true
@@ -97,7 +97,7 @@ SecondChangesNothing =
 -- ## Whose it is
 -- The task that an accepted command sets one for, by what a caller sees: who ran before the command, or whom its answer
 -- names as released; 0 is nobody. (By 12, 13 and 14 the one, by 15 the other: `whose-of` of the kind.)
--- Rules out: the runner behind the command for the one before it. Leaves: when it is shown (next).
+-- Rules out: that it goes to who runs after the command instead of who ran before it. Leaves: when it is shown (next).
 abbrev pub WhoseItIs : Type 0
 WhoseItIs =
     (s : State) (c : Command) → isSound s ≡ true → steppedState s c .answer .code ≡ 0

@@ -24,7 +24,7 @@ pub record State : Type 0 where
   pub machine : Machine
   pub pending : ℕ
 
--- bit t of a number: task t has an exception pending
+-- Whether task t has one pending: bit t of the number.
 abbrev pub has : ℕ → ℕ → Bool
 has p t = eqb (p / 2 ^ t % 2) 1
 
@@ -100,8 +100,8 @@ answers s (c ∷ cs) = answer s c ∷ answers (next s c) cs
 abbrev pub fresh : State
 fresh = record { machine = M.fresh; pending = 0 }
 
--- Pending exceptions are sound: of created tasks 1..31 only, and none before Start. (By the machine's bases, as the
--- other tables of a saved state are.)
+-- Pending exceptions are sound: of created tasks 1..31 only, and none before Start. (A task is created where
+-- its base is not 0.)
 unfoldable pub pending-sound : Bool → List ℕ → ℕ → Bool
 pending-sound started base p =
     ltb p (2 ^ task-count)

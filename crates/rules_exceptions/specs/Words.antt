@@ -17,7 +17,7 @@ matching = (12, 8) ∷ (13, 9) ∷ (14, 11) ∷ (15, 8) ∷ []
 abbrev pub names : State → Command → ℕ → Bool
 names s c t = accepts (s .machine) c && eqb (running (R.next (s .machine) c)) t
 
--- The command is accepted, and sets an exception for task t, which is not 0.
+-- The command is accepted, and sets an exception for task t. (Of t = 0: it sets none.)
 abbrev pub sets : State → Command → ℕ → Bool
 sets s c t = accepts (s .machine) c && eqb (owner (s .machine) c) t
 
