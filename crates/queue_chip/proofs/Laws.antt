@@ -147,3 +147,238 @@ pub taken-is : (e : ℕ × ℕ) (l : List (ℕ × ℕ)) → Lined (e ∷ l) → 
 unfolding taken queued
 taken-is e [] w = rw search-empty (moved-none (e .1) (e .0) 1)
 taken-is e (f ∷ l) w = rw (search-front f l (w .4)) (moved-front f l (e .1) (e .0) (suc (equals (e .0) (f ∷ l))) (w .4))
+
+-- ## Insertion
+equals-by-time : (k n t : ℕ) (l : List (ℕ × ℕ)) → equals k (by-time (n, t) l) ≡ one-if (eqb k n) + equals k l
+equals-by-time k n t [] = refl
+equals-by-time k n t (e ∷ l) = go (ltb n (e .0)) (equals-by-time k n t l)
+  where
+    go : (b : Bool) → equals k (by-time (n, t) l) ≡ one-if (eqb k n) + equals k l
+        → equals k (cond b ((n, t) ∷ e ∷ l) (e ∷ by-time (n, t) l)) ≡ one-if (eqb k n) + (one-if (eqb k (e .0)) + equals k l)
+    go true ih = refl
+    go false ih = omega arith
+
+times-by-time : (n t : ℕ) (l : List (ℕ × ℕ)) → Apart t l → times-of (by-time (n, t) l) ≡ set (times-of l) t n
+unfolding times-of
+times-by-time n t [] a = refl
+times-by-time n t (e ∷ l) a = go (ltb n (e .0)) (times-by-time n t l (a .1))
+  where
+    go : (b : Bool) → times-of (by-time (n, t) l) ≡ set (times-of l) t n
+        → times-of (cond b ((n, t) ∷ e ∷ l) (e ∷ by-time (n, t) l)) ≡ set (set (times-of l) (e .1) (e .0)) t n
+    go true ih = refl
+    go false ih = rw ih (set-comm (times-of l) t (e .1) n (e .0) (λ q. a .0 (sym q)))
+
+-- One more comes in for the time n: who is there for it is one older (a byte has room: an age is at most 31), all others stay as they are.
+older-same : (n a : ℕ) → a < 254 → older n n (suc a) ≡ suc (suc a)
+unfolding older
+older-same n a h = rw (ne-eqb (suc a) 0 (λ q. omega arith), eq-eqb n n refl, lt-ltb (suc a) 255 (omega arith)) (omega arith)
+
+older-other : (n m a : ℕ) → m ≢ n → older n m a ≡ a
+unfolding older
+older-other n m a d = rw (ne-eqb m n d) (go (eqb a 0))
+  where
+    go : (b : Bool) → cond (not b && false) (more a) a ≡ a
+    go true = refl
+    go false = refl
+
+older-some : (n m a : ℕ) → a < 254 → older n m (suc a) ≡ suc (one-if (eqb m n) + a)
+older-some n m a h =
+    ⊎-elim (λ (z : m ≡ n). rw (z, older-same n a h, eq-eqb n n refl) (omega arith))
+    (λ (d : m ≢ n). rw (older-other n m (suc a) d, ne-eqb m n d) (omega arith)) (eq-or-ne m n)
+
+older-none : (n m : ℕ) → older n m 0 ≡ 0
+unfolding older
+older-none n m = refl
+
+aged-set : (n : ℕ) (times ages : List ℕ) (i v a : ℕ) → aged n (set times i v) (set ages i a) ≡ set (aged n times ages) i (older n v a)
+unfolding aged
+aged-set n [] ages i v a = refl
+aged-set n (x ∷ times) [] zero v a = refl
+aged-set n (x ∷ times) [] (suc i) v a = refl
+aged-set n (x ∷ times) (y ∷ ages) zero v a = refl
+aged-set n (x ∷ times) (y ∷ ages) (suc i) v a = ap (λ (r : List ℕ). older n x y ∷ r) (aged-set n times ages i v a)
+
+aged-zeros : (n k : ℕ) → aged n (replicate k 0) (replicate k 0) ≡ replicate k 0
+unfolding aged
+aged-zeros n zero = refl
+aged-zeros n (suc k) = rw (older-none n 0, aged-zeros n k)
+
+equals-few : (n : ℕ) (l : List (ℕ × ℕ)) → equals n l ≤ length l
+equals-few n [] = omega arith
+equals-few n (e ∷ l) = go (eqb n (e .0)) (equals-few n l)
+  where
+    go : (b : Bool) → equals n l ≤ length l → one-if b + equals n l ≤ suc (length l)
+    go true ih = omega arith
+    go false ih = omega arith
+
+module _ (n : ℕ) where
+  -- where all are later than n, none has the time n, and none is older by one that comes in for it
+  equals-none : (l : List (ℕ × ℕ)) → All (λ f. n < f .0) l → equals n l ≡ 0
+  equals-none [] a = refl
+  equals-none (e ∷ l) a = rw (ne-eqb n (e .0) (λ q. omega (arith, a .0))) (omega (arith, equals-none l (a .1)))
+
+  aged-none : (l : List (ℕ × ℕ)) → All (λ f. n < f .0) l → aged n (times-of l) (ages-of l) ≡ ages-of l
+  unfolding times-of ages-of
+  aged-none [] a = aged-zeros n task-count
+  aged-none (e ∷ l) a =
+      aged-set n (times-of l) (ages-of l) (e .1) (e .0) (suc (equals (e .0) l)) ∙
+      rw (aged-none l (a .1), older-other n (e .0) (suc (equals (e .0) l)) (λ q. omega (arith, a .0)))
+
+  later-all : (e : ℕ × ℕ) (l : List (ℕ × ℕ)) → Lined (e ∷ l) → n < e .0 → All (λ f. n < f .0) (e ∷ l)
+  later-all e l w h = (h, all-map (λ f d. let r : e .0 ≤ f .0 = d in omega arith) l (w .3))
+
+  ages-by-time : (t : ℕ) (l : List (ℕ × ℕ)) → Lined l → Apart t l → length l ≤ task-count
+      → ages-of (by-time (n, t) l) ≡ set (aged n (times-of l) (ages-of l)) t 1
+  unfolding times-of ages-of
+  ages-by-time t [] w a few = rw (aged-none [] tt)
+  ages-by-time t (e ∷ l) w a few = go (ltb n (e .0)) refl (ages-by-time t l (w .4) (a .1) (omega arith))
+    where
+      go : (b : Bool) → ltb n (e .0) ≡ b → ages-of (by-time (n, t) l) ≡ set (aged n (times-of l) (ages-of l)) t 1
+          → ages-of (cond b ((n, t) ∷ e ∷ l) (e ∷ by-time (n, t) l)) ≡ set (aged n (times-of (e ∷ l)) (ages-of (e ∷ l))) t 1
+      go true c ih = let all = later-all e l w (ltb-true _ _ c) in rw (aged-none (e ∷ l) all, equals-none (e ∷ l) all)
+      go false c ih =
+          rw (
+            ih,
+            equals-by-time (e .0) n t l,
+            aged-set n (times-of l) (ages-of l) (e .1) (e .0) (suc (equals (e .0) l)),
+            older-some n (e .0) (equals (e .0) l) (omega (arith, equals-few (e .0) l)),
+          )
+          (set-comm (aged n (times-of l) (ages-of l)) t (e .1) 1 (suc (one-if (eqb (e .0) n) + equals (e .0) l)) (λ q. a .0 (sym q)))
+
+-- the registers' time is passed by a sooner one alone
+pub preempts-sooner : (n m : ℕ) → preempts n m ≡ true → n < m
+unfolding preempts
+preempts-sooner n m e = ltb-true n m e
+
+pub preempts-not : (n m : ℕ) → preempts n m ≡ false → m ≤ n
+unfolding preempts
+preempts-not n m e = ltb-false n m e
+
+pub insert-is : (n t : ℕ) (l : List (ℕ × ℕ)) → Lined l → Apart t l → length l ≤ task-count → insert n t (queued l) ≡ queued (by-time (n, t) l)
+unfolding insert queued times-of ages-of
+insert-is n t [] w a few = refl
+insert-is n t (e ∷ l) w a few = rw (ne-eqb (e .1) 0 (λ q. omega (arith, w .0))) (go (preempts n (e .0)) refl)
+  where
+    go : (b : Bool) → preempts n (e .0) ≡ b
+        → cond b (pushed n t (queued (e ∷ l))) (tabled n t (queued (e ∷ l))) ≡ queued (by-time (n, t) (e ∷ l))
+    go true c = let h = preempts-sooner n (e .0) c in rw (lt-ltb n (e .0) h, equals-none n (e ∷ l) (later-all n e l w h))
+    go false c =
+        rw (
+          le-ltb n (e .0) (preempts-not n (e .0) c),
+          older-some n (e .0) (equals (e .0) l) (omega (arith, equals-few (e .0) l)),
+          equals-by-time (e .0) n t l,
+          times-by-time n t l (a .1),
+          ages-by-time n t l (w .4) (a .1) (omega arith),
+        )
+
+-- a delay: one above the clock is an insertion, and any other leaves the queue as it is
+pub delayed-above : (now n t : ℕ) (l : List (ℕ × ℕ)) → now < n → Lined l → Apart t l → length l ≤ task-count
+    → delayed now n t (queued l) ≡ queued (by-time (n, t) l)
+unfolding delayed
+delayed-above now n t l h w a few = rw (lt-ltb now n h) (insert-is n t l w a few)
+
+-- ## Wake
+pub wake-is : (now : ℕ) (l : List (ℕ × ℕ)) → Lined l → wake now (queued l) ≡ queued (cond (not (empty l) && leb (front (0, 0) l .0) now) (behind-front l) l)
+unfolding wake queued
+wake-is now [] w = refl
+wake-is now (e ∷ l) w = rw (ne-eqb (e .1) 0 (λ q. omega (arith, w .0))) (go (leb (e .0) now))
+  where
+    go : (b : Bool) → cond b (taken (queued (e ∷ l))) (queued (e ∷ l)) ≡ queued (cond b l (e ∷ l))
+    go true = taken-is e l w
+    go false = refl
+
+pub woken-is : (now : ℕ) (l : List (ℕ × ℕ)) → Lined l
+    → woken now (queued l) ≡ cond (not (empty l) && leb (front (0, 0) l .0) now) (front (0, 0) l .1) 0
+unfolding woken queued
+woken-is now [] w = refl
+woken-is now (e ∷ l) w = rw (ne-eqb (e .1) 0 (λ q. omega (arith, w .0)))
+
+-- ## "Wakes left"
+module _ (f g : ℕ → Bool) (x : ℕ) (yes : f x ≡ true) (no : g x ≡ false) (same : (u : ℕ) → u ≢ x → f u ≡ g u) where
+  same-below : (k : ℕ) → k ≤ x → how-many k f ≡ how-many k g
+  unfolding how-many
+  same-below zero h = refl
+  same-below (suc k) h = rw (same k (λ q. omega arith), same-below k (omega arith))
+
+  one-more : (k : ℕ) → x < k → how-many k f ≡ suc (how-many k g)
+  unfolding how-many
+  one-more zero h = absurd (omega arith)
+  one-more (suc k) h = go (λ (i : x < k). one-more k i) (lt-or-ge x k)
+    where
+      go : (x < k → how-many k f ≡ suc (how-many k g)) → (x < k) ⊎ (k ≤ x) → one-if (f k) + how-many k f ≡ suc (one-if (g k) + how-many k g)
+      go ih (inl i) = rw (same k (λ q. omega arith)) (omega (arith, ih i))
+      go ih (inr i) = let z : k ≡ x = omega arith in rw (z, yes, no) (omega (arith, same-below x (omega arith)))
+
+none-many : (f : ℕ → Bool) → ((u : ℕ) → f u ≡ false) → (k : ℕ) → how-many k f ≡ 0
+unfolding how-many
+none-many f n zero = refl
+none-many f n (suc k) = rw (n k) (omega (arith, none-many f n k))
+
+-- who stands before t in the table of a line is ahead of it in the line
+many-before : (t : ℕ) (l : List (ℕ × ℕ)) → Lined l → at (ages-of l) t ≢ 0 → how-many task-count (λ u. before (times-of l) (ages-of l) u t) ≡ ahead t l
+many-before t [] w n = absurd (n (no-age t))
+many-before t (e ∷ l) w n = go (eqb (e .1) t) refl (many-before t l (w .4))
+  where
+    go : (b : Bool) → eqb (e .1) t ≡ b → (at (ages-of l) t ≢ 0 → how-many task-count (λ u. before (times-of l) (ages-of l) u t) ≡ ahead t l)
+        → how-many task-count (λ u. before (times-of (e ∷ l)) (ages-of (e ∷ l)) u t) ≡ cond b 0 (suc (ahead t l))
+    go true c ih =
+        let z : e .1 ≡ t = eqb-true _ _ c in
+        none-many (λ u. before (times-of (e ∷ l)) (ages-of (e ∷ l)) u t)
+        (λ u. ⊎-elim
+        (λ (q : u ≡ t). rw q (sooner-self (at (times-of (e ∷ l)) t) (at (ages-of (e ∷ l)) t)))
+        (λ (q : u ≢ t). rw (sym z) (none-before e l w u (λ r. q (r ∙ z))))
+        (eq-or-ne u t)) task-count
+    go false c ih =
+        let d : t ≢ e .1 = λ q. eqb-false _ _ c (sym q) in
+        one-more (λ u. before (times-of (e ∷ l)) (ages-of (e ∷ l)) u t) (λ u. before (times-of l) (ages-of l) u t) (e .1)
+        (front-before e l w t d)
+        (rw (absent-age (e .1) l (w .2)))
+        (λ u q. rw (other-time e l u q, other-age e l u q, other-time e l t d, other-age e l t d))
+        task-count (w .1)
+        ∙ ap suc (ih (λ q. n (other-age e l t d ∙ q)))
+
+ahead-of-is : (t : ℕ) (e : ℕ × ℕ) (l : List (ℕ × ℕ)) → Lined (e ∷ l) → at (ages-of l) t ≢ 0 → ahead-of t (queued (e ∷ l)) ≡ suc (ahead t l)
+unfolding ahead-of queued
+ahead-of-is t e l w n = omega (arith, many-before t l (w .4) n)
+
+due-is : (now t : ℕ) (l : List (ℕ × ℕ)) → Lined l → is-due now t l ≡ in-use (at (ages-of l) t) && leb (at (times-of l) t) now
+due-is now t [] w = rw (no-age t)
+due-is now t (e ∷ l) w = go (eqb (e .1) t) refl (due-is now t l (w .4))
+  where
+    go : (b : Bool) → eqb (e .1) t ≡ b → is-due now t l ≡ in-use (at (ages-of l) t) && leb (at (times-of l) t) now
+        → b && leb (e .0) now || is-due now t l ≡ in-use (at (ages-of (e ∷ l)) t) && leb (at (times-of (e ∷ l)) t) now
+    go true c ih =
+        let z : t ≡ e .1 = sym (eqb-true _ _ c) in
+        rw (ih, z, absent-age (e .1) l (w .2), own-time e l (w .1), own-age e l (w .1), ne-eqb (suc (equals (e .0) l)) 0 (λ q. omega arith))
+        (or-false (leb (e .0) now))
+    go false c ih =
+        let d : t ≢ e .1 = λ q. eqb-false _ _ c (sym q) in
+        rw (other-time e l t d, other-age e l t d) ih
+
+pub left-is : (now t : ℕ) → 0 < t → (l : List (ℕ × ℕ)) → Lined l → left now t (queued l) ≡ cond (is-due now t l) (suc (ahead t l)) 0
+unfolding left queued
+left-is now t p [] w = rw (ne-eqb 0 t (λ q. omega arith), zero-cell task-count t)
+left-is now t p (e ∷ l) w = go (eqb (e .1) t) refl
+  where
+    mine : (b : Bool) → one-if b ≡ cond (b || false) 1 0
+    mine true = refl
+    mine false = refl
+
+    in-table : (b : Bool) → in-use (at (ages-of l) t) && leb (at (times-of l) t) now ≡ b
+        → cond b (suc (ahead-of t (queued (e ∷ l)))) 0 ≡ cond b (suc (suc (ahead t l))) 0
+    in-table true c = ap suc (ahead-of-is t e l w (λ q. true≢false (sym c ∙ rw q)))
+    in-table false c = refl
+
+    go : (b : Bool) → eqb (e .1) t ≡ b
+        → cond b (one-if (leb (e .0) now)) (cond (cell-due now t (queued (e ∷ l))) (suc (ahead-of t (queued (e ∷ l)))) 0)
+        ≡ cond (b && leb (e .0) now || is-due now t l) (suc (cond b 0 (suc (ahead t l)))) 0
+    go true c = let z : t ≡ e .1 = sym (eqb-true _ _ c) in rw (due-is now t l (w .4), z, absent-age (e .1) l (w .2)) (mine (leb (e .0) now))
+    go false c = rw (due-is now t l (w .4)) (in-table (in-use (at (ages-of l) t) && leb (at (times-of l) t) now) refl)
+
+-- ## The line, read off its queue
+pub read-is : (k : ℕ) (l : List (ℕ × ℕ)) → Lined l → length l ≤ k → read k (queued l) ≡ l
+unfolding read queued
+read-is zero [] w h = refl
+read-is zero (e ∷ l) w h = absurd (omega arith)
+read-is (suc k) [] w h = refl
+read-is (suc k) (e ∷ l) w h = rw (ne-eqb (e .1) 0 (λ q. omega (arith, w .0)), taken-is e l w, read-is k l (w .4) (omega arith))
