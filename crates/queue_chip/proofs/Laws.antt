@@ -17,7 +17,8 @@ use Rattle.rules.proofs.Words.{All}
 use Rattle.rules.proofs.Lists.{all-map, eq-or-ne, lt-or-ge}
 use Rattle.kernel_line.specs.Tables.{more}
 use Rattle.queue_chip.specs.Queue.{queue, none, in-use, older, aged, preempts, pushed, tabled, insert, before, soonest, searched, moved-up, taken}
-use Rattle.queue_chip.specs.Queue.{due, woken, wake, how-many, ahead-of, cell-due, left, delayed, read}
+use Rattle.queue_chip.specs.declared.Queue.{Queue}
+use Rattle.queue_chip.specs.Queue.{due, woken, wake, how-many, ahead-of, cell-due, left, above, delayed, read}
 use Rattle.queue_chip.specs.Words.{Apart, Lined, equals, times-of, ages-of, queued}
 use Rattle.queue_chip.proofs.Search.{Sooner, sooner-yes, sooner-no, sooner-self, nobody, found}
 
@@ -271,11 +272,32 @@ insert-is n t (e ∷ l) w a few = rw (ne-eqb (e .1) 0 (λ q. omega (arith, w .0)
           ages-by-time n t l (w .4) (a .1) (omega arith),
         )
 
--- a delay: one above the clock is an insertion, and any other leaves the queue as it is
-pub delayed-above : (now n t : ℕ) (l : List (ℕ × ℕ)) → now < n → Lined l → Apart t l → length l ≤ task-count
-    → delayed now n t (queued l) ≡ queued (by-time (n, t) l)
+-- ## A delay
+pub above-later : (now n : ℕ) → above now n ≡ true → now < n
+unfolding above
+above-later now n e = ltb-true now n e
+
+pub above-not : (now n : ℕ) → above now n ≡ false → n ≤ now
+unfolding above
+above-not now n e = ltb-false now n e
+
+pub delayed-is : (now n t : ℕ) (l : List (ℕ × ℕ)) → Lined l → Apart t l → length l ≤ task-count
+    → delayed now n t (queued l) ≡ queued (cond (ltb now n) (by-time (n, t) l) l)
 unfolding delayed
-delayed-above now n t l h w a few = rw (lt-ltb now n h) (insert-is n t l w a few)
+delayed-is now n t l w a few = go (above now n) refl
+  where
+    go : (b : Bool) → above now n ≡ b → cond b (insert n t (queued l)) (queued l) ≡ queued (cond (ltb now n) (by-time (n, t) l) l)
+    go true e = rw (lt-ltb now n (above-later now n e)) (insert-is n t l w a few)
+    go false e = rw (le-ltb now n (above-not now n e))
+
+-- of any queue: what is not above the clock is not queued
+pub delayed-not : (now n t : ℕ) (q : Queue) → n ≤ now → delayed now n t q ≡ q
+unfolding delayed
+delayed-not now n t q h = go (above now n) refl
+  where
+    go : (b : Bool) → above now n ≡ b → cond b (insert n t q) q ≡ q
+    go true e = let k = above-later now n e in absurd (omega arith)
+    go false e = refl
 
 -- ## Wake
 pub wake-is : (now : ℕ) (l : List (ℕ × ℕ)) → Lined l → wake now (queued l) ≡ queued (cond (not (empty l) && leb (front (0, 0) l .0) now) (behind-front l) l)

@@ -115,9 +115,13 @@ cell-due now t q = in-use (at (q .ages) t) && leb (at (q .times) t) now
 unfoldable pub left : ℕ → ℕ → Queue → ℕ
 left now t q = cond (eqb (q .task) t) (one-if (leb (q .time) now)) (cond (cell-due now t q) (suc (ahead-of t q)) 0)
 
--- A delay of the runner: a time above the clock inserts it; any other is no delay.
+-- A DELAY of the runner: where its time n is above the clock the runner is inserted. Otherwise there is no delay, and
+-- nothing is queued.
+unfoldable pub above : ℕ → ℕ → Bool
+above now n = ltb now n
+
 unfoldable pub delayed : ℕ → ℕ → ℕ → Queue → Queue
-delayed now n runner q = cond (ltb now n) (insert n runner q) q
+delayed now n runner q = cond (above now n) (insert n runner q) q
 
 -- What an accepted command does to the queue, by its kind, at that clock, with that value and that runner: those before
 -- it.
