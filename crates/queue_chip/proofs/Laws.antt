@@ -3,15 +3,15 @@
 use Prim.Native.Nat.{ℕ, zero, suc, _+_, _≤_, _<_}
 use native.Mathlib.Omega.{arith}
 use mathlib.Core.Path.{_≡_, refl, sym, ap, _∙_}
-use mathlib.Core.Logic.{_≢_, _⊎_, inl, inr, ⊎-elim}
+use mathlib.Core.Logic.{_≢_, _↔_, _⊎_, inl, inr, ⊎-elim}
 use mathlib.Core.Bool.{Bool, true, false, cond, not, _&&_, _||_, true≢false, or-false}
 use mathlib.Core.List.{List, [], _∷_}
 use lib.Dec.{eqb, leb, ltb}
 use lib.ListN.{length, set, replicate, length-set, length-replicate, getD-replicate, List·getD-eq-default}
 use lib.Seq.{getD-set-same, getD-set-other, set-getD, set-set, set-comm}
 use borrow.Author.Tests.{ltb-true, ltb-false, eq-eqb, ne-eqb, lt-ltb, le-ltb, eqb-true, eqb-false}
-use Rattle.rules.specs.Line.{at, one-if, by-time, front, behind-front, empty}
-use Rattle.rules.specs.Machine.{task-count}
+use Rattle.rules.specs.Line.{at, one-if, count, by-time, front, behind-front, empty}
+use Rattle.rules.specs.Machine.{task-count, tasks}
 use Rattle.rules.specs.Run.{is-due, ahead}
 use Rattle.rules.proofs.Words.{All}
 use Rattle.rules.proofs.Lists.{all-map, eq-or-ne, lt-or-ge}
@@ -19,7 +19,7 @@ use Rattle.kernel_line.specs.Tables.{more}
 use Rattle.queue_chip.specs.Queue.{queue, none, in-use, older, aged, preempts, pushed, tabled, insert, before, soonest, searched, moved-up, taken}
 use Rattle.queue_chip.specs.declared.Queue.{Queue}
 use Rattle.queue_chip.specs.Queue.{due, woken, wake, how-many, ahead-of, cell-due, left, above, delayed, read}
-use Rattle.queue_chip.specs.Words.{Apart, Lined, equals, times-of, ages-of, queued}
+use Rattle.queue_chip.specs.Words.{Apart, Lined, equals, times-of, ages-of, queued, InRegisters, InTable}
 use Rattle.queue_chip.proofs.Search.{Sooner, sooner-yes, sooner-no, sooner-self, nobody, found}
 
 -- ## The table of a line, cell by cell
@@ -404,3 +404,102 @@ read-is zero [] w h = refl
 read-is zero (e ∷ l) w h = absurd (omega arith)
 read-is (suc k) [] w h = refl
 read-is (suc k) (e ∷ l) w h = rw (ne-eqb (e .1) 0 (λ q. omega (arith, w .0)), taken-is e l w, read-is k l (w .4) (omega arith))
+
+-- ## Where a task stands
+-- in the table of a line stand the line's tasks
+stands : (t : ℕ) (l : List (ℕ × ℕ)) → Lined l → (1 ≤ count t (tasks l)) ↔ (at (ages-of l) t ≢ 0)
+stands t [] w = (λ h. absurd (omega arith), λ n. absurd (n (no-age t)))
+stands t (e ∷ l) w = ⊎-elim own (other (stands t l (w .4))) (eq-or-ne t (e .1))
+  where
+    own : t ≡ e .1 → (1 ≤ count t (tasks (e ∷ l))) ↔ (at (ages-of (e ∷ l)) t ≢ 0)
+    own z = (λ h. rw z (own-there e l (w .1)), λ n. omega (arith, one-here))
+      where
+        one-here : one-if (eqb t (e .1)) ≡ 1
+        one-here = rw (eq-eqb t (e .1) z)
+
+    other : (1 ≤ count t (tasks l)) ↔ (at (ages-of l) t ≢ 0) → t ≢ e .1 → (1 ≤ count t (tasks (e ∷ l))) ↔ (at (ages-of (e ∷ l)) t ≢ 0)
+    other ih d = rw (ne-eqb t (e .1) d, other-age e l t d) (λ h. ih .0 (omega arith), λ n. omega (arith, ih .1 n))
+
+-- a delayed task stands in the registers or in the table, and never in both
+pub stands-once : (t : ℕ) (l : List (ℕ × ℕ)) → t ≢ 0 → Lined l → let q = queued l in
+    ((1 ≤ count t (tasks l)) ↔ (InRegisters q t ⊎ InTable q t)) × (InRegisters q t → InTable q t → ⊥)
+unfolding queued ages-of
+stands-once t [] n w = ((λ h. absurd (omega arith), ⊎-elim (λ (z : 0 ≡ t). absurd (n (sym z))) (λ (h : at (ages-of []) t ≢ 0). absurd (h (no-age t)))), λ z h. n (sym z))
+stands-once t (e ∷ l) n w = ((there, ⊎-elim first behind), λ z h. h (rw (sym z) (absent-age (e .1) l (w .2))))
+  where
+    there : 1 ≤ count t (tasks (e ∷ l)) → (e .1 ≡ t) ⊎ (at (ages-of l) t ≢ 0)
+    there h = ⊎-elim (λ (z : e .1 ≡ t). inl z) (λ (d : e .1 ≢ t). inr (stands t l (w .4) .0 (fewer d))) (eq-or-ne (e .1) t)
+      where
+        fewer : e .1 ≢ t → 1 ≤ count t (tasks l)
+        fewer d = let z : one-if (eqb t (e .1)) ≡ 0 = rw (ne-eqb t (e .1) (λ q. d (sym q))) in omega arith
+
+    first : e .1 ≡ t → 1 ≤ count t (tasks (e ∷ l))
+    first z = let o : one-if (eqb t (e .1)) ≡ 1 = rw (eq-eqb t (e .1) (sym z)) in omega arith
+
+    behind : at (ages-of l) t ≢ 0 → 1 ≤ count t (tasks (e ∷ l))
+    behind h = omega (arith, stands t l (w .4) .1 h)
+
+-- the registers are empty exactly where the line is, and then all of the queue is
+pub empty-exactly : (l : List (ℕ × ℕ)) → Lined l → (queued l .task ≡ 0) ↔ (l ≡ [])
+unfolding queued
+empty-exactly [] w = (λ z. refl, λ z. refl)
+empty-exactly (e ∷ l) w = (λ z. absurd (omega (arith, w .0)), λ z. ap (λ (k : List (ℕ × ℕ)). queued k .task) z)
+
+-- idle is never in the table; a cell that is not in use holds the time 0; and an age has a byte's room, and more
+idle-absent : (l : List (ℕ × ℕ)) → Lined l → Apart 0 l
+idle-absent [] w = tt
+idle-absent (e ∷ l) w = (λ z. omega (arith, w .0), idle-absent l (w .4))
+
+pub idle-free : (l : List (ℕ × ℕ)) → Lined l → InTable (queued l) 0 → ⊥
+unfolding queued ages-of
+idle-free [] w h = h (no-age 0)
+idle-free (e ∷ l) w h = h (absent-age 0 l (idle-absent l (w .4)))
+
+free-cell : (t : ℕ) (l : List (ℕ × ℕ)) → Lined l → at (ages-of l) t ≡ 0 → at (times-of l) t ≡ 0
+free-cell t [] w z = no-time t
+free-cell t (e ∷ l) w z =
+    ⊎-elim (λ (q : t ≡ e .1). absurd (own-there e l (w .1) (rw q at z)))
+    (λ (d : t ≢ e .1). other-time e l t d ∙ free-cell t l (w .4) (sym (other-age e l t d) ∙ z)) (eq-or-ne t (e .1))
+
+pub free-cells : (t : ℕ) (l : List (ℕ × ℕ)) → Lined l → let q = queued l in at (q .ages) t ≡ 0 → at (q .times) t ≡ 0
+unfolding queued times-of
+free-cells t [] w z = no-time t
+free-cells t (e ∷ l) w z = free-cell t l (w .4) z
+
+age-cell : (t : ℕ) (l : List (ℕ × ℕ)) → Lined l → at (ages-of l) t ≤ length l
+age-cell t [] w = rw (no-age t) (omega arith)
+age-cell t (e ∷ l) w =
+    ⊎-elim (λ (q : t ≡ e .1). rw (q, own-age e l (w .1)) (omega (arith, equals-few (e .0) l)))
+    (λ (d : t ≢ e .1). rw (other-age e l t d) (omega (arith, age-cell t l (w .4)))) (eq-or-ne t (e .1))
+
+pub ages-few : (t : ℕ) (l : List (ℕ × ℕ)) → Lined l → let q = queued l in (q .age ≤ length l) × (at (q .ages) t ≤ length l)
+unfolding queued ages-of
+ages-few t [] w = (omega arith, rw (zero-cell task-count t) (omega arith))
+ages-few t (e ∷ l) w = (omega (arith, equals-few (e .0) l), omega (arith, age-cell t l (w .4)))
+
+-- of two tasks of the table one stands before the other: the ages settle every tie
+settled : (t u : ℕ) (l : List (ℕ × ℕ)) → Lined l → t ≢ u → at (ages-of l) t ≢ 0 → at (ages-of l) u ≢ 0
+    → (before (times-of l) (ages-of l) t u ≡ true) ⊎ (before (times-of l) (ages-of l) u t ≡ true)
+settled t u [] w d x y = absurd (x (no-age t))
+settled t u (e ∷ l) w d x y = ⊎-elim mine (λ (n : t ≢ e .1). ⊎-elim (yours n) (neither (settled t u l (w .4) d) n) (eq-or-ne u (e .1))) (eq-or-ne t (e .1))
+  where
+    Either : Type 0
+    Either = (before (times-of (e ∷ l)) (ages-of (e ∷ l)) t u ≡ true) ⊎ (before (times-of (e ∷ l)) (ages-of (e ∷ l)) u t ≡ true)
+
+    mine : t ≡ e .1 → Either
+    mine z = inl (rw z (front-before e l w u (λ q. d (z ∙ sym q))))
+
+    yours : t ≢ e .1 → u ≡ e .1 → Either
+    yours n z = inr (rw z (front-before e l w t n))
+
+    neither : (at (ages-of l) t ≢ 0 → at (ages-of l) u ≢ 0 → (before (times-of l) (ages-of l) t u ≡ true) ⊎ (before (times-of l) (ages-of l) u t ≡ true))
+        → t ≢ e .1 → u ≢ e .1 → Either
+    neither ih n k =
+        rw (other-time e l t n, other-age e l t n, other-time e l u k, other-age e l u k)
+        (ih (λ z. x (other-age e l t n ∙ z)) (λ z. y (other-age e l u k ∙ z)))
+
+pub ties-settled : (t u : ℕ) (l : List (ℕ × ℕ)) → Lined l → let q = queued l in t ≢ u → InTable q t → InTable q u
+    → (before (q .times) (q .ages) t u ≡ true) ⊎ (before (q .times) (q .ages) u t ≡ true)
+unfolding queued ages-of
+ties-settled t u [] w d x y = absurd (x (no-age t))
+ties-settled t u (e ∷ l) w d x y = settled t u l (w .4) d x y

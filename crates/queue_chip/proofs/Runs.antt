@@ -1,6 +1,6 @@
 -- The queue beside a machine: of every sound machine, and by every command, the queue of its delay line becomes the queue of the delay line behind the
 -- command. By the kinds of command, of which two touch a delay line. Assumes nothing.
-use Prim.Native.Nat.{ℕ, suc, _≤_, _<_}
+use Prim.Native.Nat.{ℕ, suc, _+_, _≤_, _<_}
 use native.Mathlib.Omega.{arith}
 use mathlib.Core.Path.{_≡_, refl, sym, ap, _∙_}
 use mathlib.Core.Logic.{_≢_}
@@ -8,7 +8,8 @@ use mathlib.Core.Bool.{Bool, true, false, cond, _&&_}
 use mathlib.Core.List.{List, [], _∷_}
 use lib.Dec.{eqb, ltb}
 use lib.ListN.{length}
-use Rattle.rules.specs.Line.{count, front, behind-front, by-time}
+use borrow.Author.Tests.{eqb-true}
+use Rattle.rules.specs.Line.{one-if, count, front, behind-front, by-time}
 use Rattle.rules.specs.Machine.{Machine, Command, task-count, tasks, runner, for-entry}
 use Rattle.rules.specs.declared.Kind.{Kind}
 use Rattle.rules.specs.declared.Kind.the-variants.{NoKind, Creating, Declaring, Starting, Delaying, Waking, Advancing, Opening, Entering, Ending}
@@ -16,8 +17,8 @@ use Rattle.rules.specs.Kinds.{kind}
 use Rattle.rules.specs.Table.{Out, same, take, yield, close, sleep, await, none, due, serve, first-due, opens, effect-of, effect, freed, release, leave, carry}
 use Rattle.rules.specs.Run.{accepts, next, released, wakes-left}
 use Rattle.rules.proofs.Words.{All, Pairwise, cmd}
-use Rattle.rules.proofs.Lists.{count-absent, one-self}
-use Rattle.rules.proofs.Sounds.{Sound, delay-few, once, runner-there}
+use Rattle.rules.proofs.Lists.{count-absent, one-self, few}
+use Rattle.rules.proofs.Sounds.{Sound, once, runner-there}
 use Rattle.queue_chip.specs.Queue.{wake, woken, left, delayed, follow, beside}
 use Rattle.queue_chip.specs.Words.{Apart, Lined, queued}
 use Rattle.queue_chip.proofs.Laws.{delayed-is, wake-is, woken-is, left-is}
@@ -49,8 +50,14 @@ module _ (m : Machine) (s : Sound m) where
       lined-of (m .delay) (λ t. omega (arith, once m s t)) (omega (arith, once m s 0, s .idle-ready .idle-there)) (s .stand-once .delay-tasks)
       (s .in-order .times-rise)
 
-  pub delay-short : length (m .delay) ≤ task-count
-  delay-short = omega (arith, tasks-length (m .delay), delay-few m s)
+  -- (idle is never delayed, so at most 31 are)
+  pub delay-short : length (m .delay) < task-count
+  delay-short =
+      omega (arith, tasks-length (m .delay), few task-count (0 ∷ tasks (m .delay)) (omega arith, s .stand-once .delay-tasks) (λ t. counted t (eqb t 0) refl))
+    where
+      counted : (t : ℕ) (b : Bool) → eqb t 0 ≡ b → one-if b + count t (tasks (m .delay)) ≤ 1
+      counted t true e = rw (eqb-true t 0 e) (omega (arith, once m s 0, s .idle-ready .idle-there))
+      counted t false e = omega (arith, once m s t)
 
   runner-apart : Apart (runner m) (m .delay)
   runner-apart =
@@ -85,7 +92,7 @@ module _ (m : Machine) (s : Sound m) where
   by-kind c Declaring = refl
   by-kind c Starting = refl
   by-kind c Delaying =
-      delayed-is (m .clock) (c .value) (runner m) (m .delay) delay-lined runner-apart delay-short ∙
+      delayed-is (m .clock) (c .value) (runner m) (m .delay) delay-lined runner-apart (omega (arith, delay-short)) ∙
       ap queued (sym (slept (c .value) (ltb (m .clock) (c .value))))
   by-kind c Waking = wake-is (m .clock) (m .delay) delay-lined ∙ ap queued (sym (woke (first-due m)))
   by-kind c Advancing = refl
