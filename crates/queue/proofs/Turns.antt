@@ -2,9 +2,9 @@
 use Prim.Native.Nat.{ℕ, zero, suc, _+_, _≤_, _<_}
 use native.Mathlib.Numerals.{add-one}
 use native.Mathlib.Omega.{arith}
-use mathlib.Core.Path.{_≡_, refl, sym, ap, _∙_}
+use mathlib.Core.Path.{_≡_, refl, sym, _∙_}
 use mathlib.Core.Logic.{_≢_, ⊎-elim}
-use mathlib.Core.Bool.{Bool, true, false, cond, not, _&&_}
+use mathlib.Core.Bool.{Bool, true, false, cond, _&&_}
 use mathlib.Core.List.{List, [], _∷_, _++_, append-assoc, append-nil}
 use lib.Dec.{eqb, leb}
 use lib.ListN.{length, take, drop, set, drop-of-length-le}
@@ -129,7 +129,8 @@ module _ (q : Queue) where
     unfolding left ahead-of
     left-other e = rw (ne-eqb (q .task) t e) (go (cell-due now t q))
       where
-        go : (b : Bool) → cond b (how-many 32 (λ u. before (q .times) (q .ages) u t) + 2) 0 ≡ cond b (suc (1 + how-many 32 (λ u. before (q .times) (q .ages) u t))) 0
+        go : (b : Bool)
+            → cond b (how-many 32 (λ u. before (q .times) (q .ages) u t) + 2) 0 ≡ cond b (suc (1 + how-many 32 (λ u. before (q .times) (q .ages) u t))) 0
         go true = omega arith
         go false = refl
 

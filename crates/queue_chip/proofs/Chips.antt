@@ -14,24 +14,27 @@ use Rattle.rules.specs.Machine as M
 use Rattle.rules.specs.declared.Kind.{Kind}
 use Rattle.rules.specs.declared.Kind.the-variants.{NoKind, Creating, Declaring, Starting, Delaying, Waking, Advancing, Opening, Entering, Ending}
 use Rattle.rules.specs.Kinds.{kind}
-use Rattle.rules.specs.Table.{Out, same, take, yield, close, sleep, await, none, due, serve, first-due, opens, effect-of, effect, freed, freed-by, enter}
-use Rattle.rules.specs.Table.{later, release, leave, carry}
+use Rattle.rules.specs.Table.{Out, same, take, yield, close, sleep, await, Rel, none, due, serve, first-due, opens, effect-of, effect, freed}
+use Rattle.rules.specs.Table.{freed-by, enter, later, release, leave, carry}
 use Rattle.rules.specs.Refusals.{checks-of, first-number, refusal}
-use Rattle.rules.specs.Run.{accepts, released, wakes-left, Answer, Left}
+use Rattle.rules.specs.Run.{accepts, released, wakes-left, Left}
 use Rattle.rules.specs.Run as R
 use Rattle.rules.proofs.Sounds.{Sound}
 use Rattle.rules.proofs.Tests.{both-true}
-use Rattle.rules.proofs.Step.{next-sound, run-sound, fresh-sound}
+use Rattle.rules.proofs.Step.{next-sound}
 use Rattle.queue_chip.specs.declared.Queue.{Queue}
 use Rattle.queue_chip.specs.Queue.{left, follow, beside}
-use Rattle.queue_chip.specs.Chip.{with-delay, Chip, chip, fresh, face, next, answer, question, run, answers}
+use Rattle.queue_chip.specs.Chip.{with-delay, chip, fresh, face, next, answer, question, run, answers}
 use Rattle.queue_chip.specs.Words.{Lined, queued, chip-of}
 use Rattle.queue_chip.proofs.Runs.{delay-lined, beside-is, left-same}
 
 -- ## The rules look at the first entry alone
 module _ (m : Machine) where
-  slept : (v : ℕ) (k l : List (ℕ × ℕ)) (b : Bool)
-      → with-delay (leave (cond b (sleep v) yield) (release none (with-delay m k))) [] ≡ with-delay (leave (cond b (sleep v) yield) (release none (with-delay m l))) []
+  -- m with a delay line, behind a release and the runner's way out; without the line that is left
+  abbrev bare : Out → Rel → List (ℕ × ℕ) → Machine
+  bare out rel l = with-delay (leave out (release rel (with-delay m l))) []
+
+  slept : (v : ℕ) (k l : List (ℕ × ℕ)) (b : Bool) → bare (cond b (sleep v) yield) none k ≡ bare (cond b (sleep v) yield) none l
   unfolding leave release
   slept v k l true = refl
   slept v k l false = refl
@@ -40,8 +43,7 @@ module _ (m : Machine) where
   same-due [] = refl
   same-due (e ∷ l) = refl
 
-  woke : (l : List (ℕ × ℕ)) (b : Bool)
-      → with-delay (leave same (release (cond b due none) (with-delay m (first-alone l)))) [] ≡ with-delay (leave same (release (cond b due none) (with-delay m l))) []
+  woke : (l : List (ℕ × ℕ)) (b : Bool) → bare same (cond b due none) (first-alone l) ≡ bare same (cond b due none) l
   unfolding leave release
   woke [] true = refl
   woke (e ∷ l) true = refl
@@ -51,14 +53,12 @@ module _ (m : Machine) where
   enter-same k l [] r = refl
   enter-same k l (t ∷ ts) r = enter-same k l ts (at-tail (active m) (at (m .base) t) t r)
 
-  closed : (o : ℕ) (k l : List (ℕ × ℕ)) (b : Bool)
-      → with-delay (leave close (release (cond b (serve o 1) none) (with-delay m k))) [] ≡ with-delay (leave close (release (cond b (serve o 1) none) (with-delay m l))) []
+  closed : (o : ℕ) (k l : List (ℕ × ℕ)) (b : Bool) → bare close (cond b (serve o 1) none) k ≡ bare close (cond b (serve o 1) none) l
   unfolding leave release
   closed o k l true = rw (enter-same k l (first-alone (getD (m .queue) o [])) (m .ready))
   closed o k l false = refl
 
-  entered : (o w : ℕ) (k l : List (ℕ × ℕ)) (b : Bool)
-      → with-delay (leave (cond b (take o w) (await o)) (release none (with-delay m k))) [] ≡ with-delay (leave (cond b (take o w) (await o)) (release none (with-delay m l))) []
+  entered : (o w : ℕ) (k l : List (ℕ × ℕ)) (b : Bool) → bare (cond b (take o w) (await o)) none k ≡ bare (cond b (take o w) (await o)) none l
   unfolding leave release
   entered o w k l true = refl
   entered o w k l false = refl

@@ -16,9 +16,9 @@ use Rattle.rules.specs.Run.{is-due, ahead}
 use Rattle.rules.proofs.Words.{All}
 use Rattle.rules.proofs.Lists.{all-map, eq-or-ne, lt-or-ge}
 use Rattle.kernel_line.specs.Tables.{more}
-use Rattle.queue_chip.specs.Queue.{queue, none, in-use, older, aged, preempts, pushed, tabled, insert, before, soonest, searched, moved-up, taken}
+use Rattle.queue_chip.specs.Queue.{queue, none, in-use, older, aged, preempts, pushed, tabled, insert, before, searched, moved-up, taken}
 use Rattle.queue_chip.specs.declared.Queue.{Queue}
-use Rattle.queue_chip.specs.Queue.{due, woken, wake, how-many, ahead-of, cell-due, left, above, delayed, read}
+use Rattle.queue_chip.specs.Queue.{woken, wake, how-many, ahead-of, cell-due, left, above, delayed, read}
 use Rattle.queue_chip.specs.Words.{Apart, Lined, equals, times-of, ages-of, queued, InRegisters, InTable}
 use Rattle.queue_chip.proofs.Search.{Sooner, sooner-yes, sooner-no, sooner-self, nobody, found}
 
@@ -424,7 +424,10 @@ stands t (e ∷ l) w = ⊎-elim own (other (stands t l (w .4))) (eq-or-ne t (e .
 pub stands-once : (t : ℕ) (l : List (ℕ × ℕ)) → t ≢ 0 → Lined l → let q = queued l in
     ((1 ≤ count t (tasks l)) ↔ (InRegisters q t ⊎ InTable q t)) × (InRegisters q t → InTable q t → ⊥)
 unfolding queued ages-of
-stands-once t [] n w = ((λ h. absurd (omega arith), ⊎-elim (λ (z : 0 ≡ t). absurd (n (sym z))) (λ (h : at (ages-of []) t ≢ 0). absurd (h (no-age t)))), λ z h. n (sym z))
+stands-once t [] n w = (
+  (λ h. absurd (omega arith), ⊎-elim (λ (z : 0 ≡ t). absurd (n (sym z))) (λ (h : at (ages-of []) t ≢ 0). absurd (h (no-age t)))),
+  λ z h. n (sym z),
+)
 stands-once t (e ∷ l) n w = ((there, ⊎-elim first behind), λ z h. h (rw (sym z) (absent-age (e .1) l (w .2))))
   where
     there : 1 ≤ count t (tasks (e ∷ l)) → (e .1 ≡ t) ⊎ (at (ages-of l) t ≢ 0)

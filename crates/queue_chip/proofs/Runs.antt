@@ -14,12 +14,12 @@ use Rattle.rules.specs.Machine.{Machine, Command, task-count, tasks, runner, fo
 use Rattle.rules.specs.declared.Kind.{Kind}
 use Rattle.rules.specs.declared.Kind.the-variants.{NoKind, Creating, Declaring, Starting, Delaying, Waking, Advancing, Opening, Entering, Ending}
 use Rattle.rules.specs.Kinds.{kind}
-use Rattle.rules.specs.Table.{Out, same, take, yield, close, sleep, await, none, due, serve, first-due, opens, effect-of, effect, freed, release, leave, carry}
+use Rattle.rules.specs.Table.{same, take, yield, close, sleep, await, none, due, serve, first-due, opens, effect-of, effect, freed, release, leave, carry}
 use Rattle.rules.specs.Run.{accepts, next, released, wakes-left}
 use Rattle.rules.proofs.Words.{All, Pairwise, cmd}
 use Rattle.rules.proofs.Lists.{count-absent, one-self, few}
 use Rattle.rules.proofs.Sounds.{Sound, once, runner-there}
-use Rattle.queue_chip.specs.Queue.{wake, woken, left, delayed, follow, beside}
+use Rattle.queue_chip.specs.Queue.{woken, left, follow, beside}
 use Rattle.queue_chip.specs.Words.{Apart, Lined, queued}
 use Rattle.queue_chip.proofs.Laws.{delayed-is, wake-is, woken-is, left-is}
 

@@ -2,16 +2,15 @@
 -- fact on each turn: whoever stands before the soonest so far stands before all that it stood before. Assumes nothing.
 use Prim.Native.Nat.{ℕ, zero, suc, _≤_, _<_}
 use native.Mathlib.Omega.{arith}
-use mathlib.Core.Path.{_≡_, refl, sym, ap, _∙_}
+use mathlib.Core.Path.{_≡_, refl, sym, _∙_}
 use mathlib.Core.Logic.{_≢_, _⊎_, inl, inr, ⊎-elim}
 use mathlib.Core.Bool.{Bool, true, false, cond, not, _&&_, _||_, true≢false}
 use mathlib.Core.List.{List}
 use lib.Dec.{eqb, ltb}
-use borrow.Author.Tests.{ltb-true, ltb-false, eq-eqb, ne-eqb, lt-ltb, le-ltb, eqb-true, eqb-false}
+use borrow.Author.Tests.{ltb-true, ltb-false, eq-eqb, ne-eqb, lt-ltb, eqb-true, eqb-false}
 use Rattle.rules.specs.Line.{at}
-use Rattle.rules.specs.Machine.{task-count}
-use Rattle.rules.proofs.Lists.{eq-or-ne, lt-or-ge}
-use Rattle.queue_chip.specs.Queue.{sooner, before, soonest, searched}
+use Rattle.rules.proofs.Lists.{lt-or-ge}
+use Rattle.queue_chip.specs.Queue.{sooner, before, soonest}
 
 -- What the test says. A cell that is in use stands before another: that is not in use, or is no sooner, and of the same time is younger.
 abbrev pub Sooner : ℕ → ℕ → ℕ → ℕ → Type 0

@@ -14,7 +14,7 @@ use Rattle.rules.specs.Machine.{Machine, Command, task-count, tasks}
 use Rattle.rules.specs.Machine as M
 use Rattle.rules.specs.Refusals.{refusal}
 use Rattle.rules.specs.Sound.{sound}
-use Rattle.rules.specs.Run.{accepts, released}
+use Rattle.rules.specs.Run.{released}
 use Rattle.rules.specs.Run as R
 use Rattle.rules.proofs.Words.{cmd}
 use Rattle.rules.proofs.Sounds.{Sound, tests-sound}
@@ -24,7 +24,8 @@ use Rattle.queue_chip.specs.Queue.{none, insert, before, searched, taken
 use Rattle.queue_chip.specs.Chip.{Chip, with-delay, fresh, next, answer, question, run, answers}
 use Rattle.queue_chip.specs.Words.{Apart, Lined, queued, Holds, InRegisters, InTable, chip-of}
 use Rattle.queue_chip.proofs.Search.{no-worse, below, nobody}
-use Rattle.queue_chip.proofs.Laws.{insert-is, taken-is, wake-is, delayed-not, read-is, stands-once, empty-exactly, idle-free, free-cells, ages-few, ties-settled}
+use Rattle.queue_chip.proofs.Laws.{insert-is, taken-is, wake-is, delayed-not, read-is, stands-once, empty-exactly}
+use Rattle.queue_chip.proofs.Laws.{idle-free, free-cells, ages-few, ties-settled}
 use Rattle.queue_chip.proofs.Runs.{delay-lined, delay-short, beside-is, wake-releases}
 use Rattle.queue_chip.proofs.Chips.{answer-is, question-is, run-is, answers-are, fresh-is}
 

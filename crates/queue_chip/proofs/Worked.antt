@@ -12,7 +12,8 @@ use Rattle.rules.specs.Run.{released}
 use Rattle.rules.specs.Run as R
 use Rattle.rules.proofs.Script.{create, start, delay, wake, advance, otherwise}
 use Rattle.queue_chip.specs.declared.Queue.{Queue}
-use Rattle.queue_chip.specs.Queue.{none, older, aged, preempts, insert, soonest, searched, moved-up, taken, woken, how-many, ahead-of, left, above, delayed, follow, beside}
+use Rattle.queue_chip.specs.Queue.{none, older, aged, preempts, insert, soonest, searched, moved-up, taken, woken, how-many, ahead-of, left}
+use Rattle.queue_chip.specs.Queue.{above, delayed, follow, beside}
 use Rattle.queue_chip.specs.Queue as Q
 use Rattle.queue_chip.specs.Chip.{Chip, fresh, next, answer, question, run}
 
@@ -57,7 +58,8 @@ pub run-shows : all-give made delays ≡
     line 0 25 0 (24 ∷ 40 ∷ 1 ∷ 21 ∷ 50 ∷ 3 ∷ 22 ∷ 50 ∷ 1 ∷ 23 ∷ 50 ∷ 2 ∷ []) ∷
     line 0 24 24 (21 ∷ 50 ∷ 3 ∷ 22 ∷ 50 ∷ 1 ∷ 23 ∷ 50 ∷ 2 ∷ []) ∷
     line 0 24 0 (21 ∷ 50 ∷ 3 ∷ 22 ∷ 50 ∷ 1 ∷ 23 ∷ 50 ∷ 2 ∷ []) ∷ []
-unfolding insert delayed above preempts older aged soonest searched moved-up taken Q.wake follow beside next answer run R.next R.answer released refusal carry leave release
+unfolding insert delayed above preempts older aged soonest searched moved-up taken Q.wake follow beside next answer run
+    R.next R.answer released refusal carry leave release
 run-shows = refl
 
 -- Ten ticks later all three are due: each has as many Wakes left as stand before it, and one for itself. They leave from the oldest to the youngest, and then
@@ -70,7 +72,8 @@ pub wakes-show : all-give later (wake ∷ wake ∷ wake ∷ wake ∷ []) ≡
     line 0 21 23 (22 ∷ 50 ∷ 1 ∷ []) ∷
     line 0 21 22 (0 ∷ 0 ∷ 0 ∷ []) ∷
     line 0 21 0 (0 ∷ 0 ∷ 0 ∷ []) ∷ []
-unfolding insert delayed above preempts older aged soonest searched moved-up taken Q.wake follow beside next answer run R.next R.answer released refusal carry leave release
+unfolding insert delayed above preempts older aged soonest searched moved-up taken Q.wake follow beside next answer run
+    R.next R.answer released refusal carry leave release
 wakes-show = refl
 
 abbrev lefts : Chip → List ℕ → List (List ℕ)
@@ -80,7 +83,8 @@ lefts k (t ∷ ts) = let a = question k t in (t ∷ a .code ∷ a .left ∷ []) 
 pub lefts-show : lefts later (21 ∷ 22 ∷ 23 ∷ 24 ∷ 25 ∷ 26 ∷ 0 ∷ 32 ∷ []) ≡
     (21 ∷ 0 ∷ 1 ∷ []) ∷ (22 ∷ 0 ∷ 3 ∷ []) ∷ (23 ∷ 0 ∷ 2 ∷ []) ∷ (24 ∷ 0 ∷ 0 ∷ []) ∷ (25 ∷ 0 ∷ 0 ∷ []) ∷
     (26 ∷ 6 ∷ 0 ∷ []) ∷ (0 ∷ 4 ∷ 0 ∷ []) ∷ (32 ∷ 4 ∷ 0 ∷ []) ∷ []
-unfolding insert delayed above preempts older aged soonest searched moved-up taken Q.wake follow beside next question how-many ahead-of left run R.next released refusal carry leave release
+unfolding insert delayed above preempts older aged soonest searched moved-up taken Q.wake follow beside next question how-many ahead-of left run
+    R.next released refusal carry leave release
 lefts-show = refl
 
 -- ## The search of a table that is given by its cells: task, time, age
@@ -97,7 +101,8 @@ pub search-shows :
     (finds [] 0 ∷ finds ((1, 70, 1) ∷ []) 1 ∷ finds ((31, 70, 1) ∷ []) 31 ∷
     finds ((3, 60, 1) ∷ (17, 61, 1) ∷ (31, 62, 1) ∷ []) 3 ∷ finds ((3, 61, 1) ∷ (17, 60, 1) ∷ (31, 62, 1) ∷ []) 17 ∷
     finds ((3, 62, 1) ∷ (17, 61, 1) ∷ (31, 60, 1) ∷ []) 31 ∷
-    finds ((5, 44, 1) ∷ (7, 44, 2) ∷ (9, 44, 3) ∷ []) 9 ∷ finds ((5, 44, 2) ∷ (7, 44, 3) ∷ (9, 44, 1) ∷ []) 7 ∷ finds ((5, 44, 3) ∷ (7, 44, 1) ∷ (9, 44, 2) ∷ []) 5 ∷
+    finds ((5, 44, 1) ∷ (7, 44, 2) ∷ (9, 44, 3) ∷ []) 9 ∷ finds ((5, 44, 2) ∷ (7, 44, 3) ∷ (9, 44, 1) ∷ []) 7 ∷
+    finds ((5, 44, 3) ∷ (7, 44, 1) ∷ (9, 44, 2) ∷ []) 5 ∷
     finds ((8, 90, 2) ∷ (12, 90, 1) ∷ (30, 89, 1) ∷ []) 30 ∷ finds ((8, 0, 1) ∷ (12, 1, 1) ∷ []) 8 ∷ [])
     ≡ []
 unfolding soonest searched

@@ -1,7 +1,7 @@
 -- `queue::find` meets its contract, by its loop: the best so far is the soonest of the tasks so far. Assumes nothing.
 use Prim.Native.Nat.{_-_, _≤_, _<_}
 use native.Mathlib.Omega.{arith}
-use mathlib.Core.Path.{_≡_, sym, ap, _∙_}
+use mathlib.Core.Path.{_≡_, sym, _∙_}
 use mathlib.Core.Logic.{⊎-elim}
 use mathlib.Core.Bool.{true, false}
 use borrow.Author.Needs.{needs}

@@ -23,10 +23,14 @@ returns c =
     c .insert .ensures ∙ follow-above (a .q) (a .now) (a .value) (a .runner .0) (a .k) (c .before .before .before .match .keys1) (c .before .if1 .taken)
 
 returns-2 : tie.Need-returns-2
-returns-2 c = let a = c .before .before .before .args in follow-not (a .q) (a .now) (a .value) (a .runner .0) (a .k) (c .before .before .match .keys1) (c .if1 .left)
+returns-2 c =
+    let a = c .before .before .before .args in
+    follow-not (a .q) (a .now) (a .value) (a .runner .0) (a .k) (c .before .before .match .keys1) (c .if1 .left)
 
 returns-3 : tie.Need-returns-3
-returns-3 c = let a = c .before .before .before .args in c .wake .ensures ∙ follow-wake (a .q) (a .now) (a .value) (a .runner .0) (a .k) (c .before .before .match .keys2)
+returns-3 c =
+    let a = c .before .before .before .args in
+    c .wake .ensures ∙ follow-wake (a .q) (a .now) (a .value) (a .runner .0) (a .k) (c .before .before .match .keys2)
 
 returns-4 : tie.Need-returns-4
 returns-4 c = let a = c .before .args in follow-other (a .q) (a .now) (a .value) (a .runner .0) (a .k) (c .match .keys3)

@@ -15,10 +15,14 @@ put-requires : tie.Need-put-requires
 put-requires c κs = search needs
 
 returns-2 : tie.Need-returns-2
-returns-2 c = let a = c .before .before .before .args in c .push .ensures ∙ insert-sooner (a .q) (a .n) (a .t .0) (c .before .before .if1 .left) (c .before .if2 .taken)
+returns-2 c =
+    let a = c .before .before .before .args in
+    c .push .ensures ∙ insert-sooner (a .q) (a .n) (a .t .0) (c .before .before .if1 .left) (c .before .if2 .taken)
 
 returns-3 : tie.Need-returns-3
-returns-3 c = let a = c .before .before .before .args in c .put .ensures ∙ insert-later (a .q) (a .n) (a .t .0) (c .before .before .if1 .left) (c .before .if2 .left)
+returns-3 c =
+    let a = c .before .before .before .args in
+    c .put .ensures ∙ insert-later (a .q) (a .n) (a .t .0) (c .before .before .if1 .left) (c .before .if2 .left)
 
 pub insert-spec : {M : Type 1} → statement M
 insert-spec = tie.close (tie.spec returns push-requires put-requires returns-2 returns-3)

@@ -28,7 +28,8 @@ add-choose : tie.Need-add-choose
 add-choose c =
     let q = c .before .before .before .before .before .before .before .before .before .args .q in
     let few : c .count-sooner .result ≤ 32 =
-    rw (c .count-sooner .ensures) (many-most 32 (λ u. sooner (at (q .times) u) (at (q .ages) u) (c .before .before .before .time-of .result) (c .before .of-task .result))) in
+    rw (c .count-sooner .ensures)
+    (many-most 32 (λ u. sooner (at (q .times) u) (at (q .ages) u) (c .before .before .before .time-of .result) (c .before .of-task .result))) in
     search needs
 
 choose-requires-2 : tie.Need-choose-requires-2
