@@ -4,7 +4,7 @@ use Prim.Native.Nat.{ℕ, zero, suc, _+_, _≤_, _<_}
 use native.Mathlib.Omega.{arith}
 use mathlib.Core.Path.{_≡_, refl, sym, ap, _∙_}
 use mathlib.Core.Logic.{_≢_, _↔_, _⊎_, inl, inr, ⊎-elim}
-use mathlib.Core.Bool.{Bool, true, false, cond, not, _&&_, _||_, true≢false, or-false}
+use mathlib.Core.Bool.{Bool, true, false, cond, not, _&&_, _||_, true≢false, or-false, and-false}
 use mathlib.Core.List.{List, [], _∷_}
 use lib.Dec.{eqb, leb, ltb}
 use lib.ListN.{length, set, replicate, length-set, length-replicate, getD-replicate, List·getD-eq-default}
@@ -127,18 +127,23 @@ search-empty : searched (times-of []) (ages-of []) ≡ 0
 unfolding searched
 search-empty = nobody (times-of []) (ages-of []) _ (λ u h. no-age u)
 
--- the front's cell is free again when it is moved up
-moved-front : (e : ℕ × ℕ) (l : List (ℕ × ℕ)) (t n a : ℕ) → Lined (e ∷ l) → moved-up (e .1) (queue t n a (times-of (e ∷ l)) (ages-of (e ∷ l))) ≡ queued (e ∷ l)
-unfolding moved-up queued times-of ages-of
-moved-front e l t n a w = rw (own-time e l (w .1), own-age e l (w .1), freed-time, freed-age)
-  where
-    freed-time : set (set (times-of l) (e .1) (e .0)) (e .1) 0 ≡ times-of l
-    freed-time =
-        set-set (times-of l) (e .1) (e .0) 0 ∙ ap (set (times-of l) (e .1)) (sym (absent-time (e .1) l (w .2))) ∙ set-getD (times-of l) (e .1) 0
+freed-time : (e : ℕ × ℕ) (l : List (ℕ × ℕ)) → Lined (e ∷ l) → set (times-of (e ∷ l)) (e .1) 0 ≡ times-of l
+unfolding times-of
+freed-time e l w =
+    set-set (times-of l) (e .1) (e .0) 0 ∙ ap (set (times-of l) (e .1)) (sym (absent-time (e .1) l (w .2))) ∙ set-getD (times-of l) (e .1) 0
 
-    freed-age : set (set (ages-of l) (e .1) (suc (equals (e .0) l))) (e .1) 0 ≡ ages-of l
-    freed-age =
-        set-set (ages-of l) (e .1) (suc (equals (e .0) l)) 0 ∙ ap (set (ages-of l) (e .1)) (sym (absent-age (e .1) l (w .2))) ∙ set-getD (ages-of l) (e .1) 0
+freed-age : (e : ℕ × ℕ) (l : List (ℕ × ℕ)) → Lined (e ∷ l) → set (ages-of (e ∷ l)) (e .1) 0 ≡ ages-of l
+unfolding ages-of
+freed-age e l w =
+    set-set (ages-of l) (e .1) (suc (equals (e .0) l)) 0 ∙ ap (set (ages-of l) (e .1)) (sym (absent-age (e .1) l (w .2))) ∙ set-getD (ages-of l) (e .1) 0
+
+same-queue : (t : ℕ) {n m a b : ℕ} {ns ms gs hs : List ℕ} → n ≡ m → a ≡ b → ns ≡ ms → gs ≡ hs → queue t n a ns gs ≡ queue t m b ms hs
+same-queue t p q r s = cc
+
+-- the front is moved up with its own time and age, and its cell is free again
+moved-front : (e : ℕ × ℕ) (l : List (ℕ × ℕ)) (t n a : ℕ) → Lined (e ∷ l) → moved-up (e .1) (queue t n a (times-of (e ∷ l)) (ages-of (e ∷ l))) ≡ queued (e ∷ l)
+unfolding moved-up queued
+moved-front e l t n a w = same-queue (e .1) (own-time e l (w .1)) (own-age e l (w .1)) (freed-time e l w) (freed-age e l w)
 
 moved-none : (t n a : ℕ) → moved-up 0 (queue t n a (times-of []) (ages-of [])) ≡ none
 unfolding moved-up times-of ages-of
@@ -170,17 +175,16 @@ times-by-time n t (e ∷ l) a = go (ltb n (e .0)) (times-by-time n t l (a .1))
     go false ih = rw ih (set-comm (times-of l) t (e .1) n (e .0) (λ q. a .0 (sym q)))
 
 -- One more comes in for the time n: who is there for it is one older (a byte has room: an age is at most 31), all others stay as they are.
+more-one : (a : ℕ) → a < 254 → more (suc a) ≡ suc (suc a)
+more-one a h = rw (lt-ltb (suc a) 255 (omega arith)) (omega arith)
+
 older-same : (n a : ℕ) → a < 254 → older n n (suc a) ≡ suc (suc a)
 unfolding older
-older-same n a h = rw (ne-eqb (suc a) 0 (λ q. omega arith), eq-eqb n n refl, lt-ltb (suc a) 255 (omega arith)) (omega arith)
+older-same n a h = rw (ne-eqb (suc a) 0 (λ q. omega arith), eq-eqb n n refl) (more-one a h)
 
 older-other : (n m a : ℕ) → m ≢ n → older n m a ≡ a
 unfolding older
-older-other n m a d = rw (ne-eqb m n d) (go (eqb a 0))
-  where
-    go : (b : Bool) → cond (not b && false) (more a) a ≡ a
-    go true = refl
-    go false = refl
+older-other n m a d = rw (ne-eqb m n d, and-false (in-use a))
 
 older-some : (n m a : ℕ) → a < 254 → older n m (suc a) ≡ suc (one-if (eqb m n) + a)
 older-some n m a h =
