@@ -15,12 +15,13 @@ use Rattle.rules.specs.declared.Kind.{Kind}
 use Rattle.rules.specs.declared.Kind.the-variants.{NoKind, Creating, Declaring, Starting, Delaying, Waking, Advancing, Opening, Entering, Ending}
 use Rattle.rules.specs.Kinds.{kind}
 use Rattle.rules.specs.Table.{same, take, yield, close, sleep, await, none, due, serve, first-due, opens, effect-of, effect, freed, release, leave, carry}
-use Rattle.rules.specs.Run.{accepts, next, released, wakes-left}
+use Rattle.rules.specs.Run.{accepts, next, released, run, wakes-left}
 use Rattle.rules.proofs.Words.{All, Pairwise, cmd}
 use Rattle.rules.proofs.Lists.{count-absent, one-self, few}
 use Rattle.rules.proofs.Sounds.{Sound, once, runner-there}
+use Rattle.rules.proofs.Step.{next-sound}
 use Rattle.queue_chip.specs.Queue.{woken, left, follow, beside}
-use Rattle.queue_chip.specs.Words.{Apart, Lined, queued}
+use Rattle.queue_chip.specs.Words.{Apart, Lined, queued, follows}
 use Rattle.queue_chip.proofs.Laws.{delayed-is, wake-is, woken-is, left-is}
 
 -- ## The delay line of a sound machine
@@ -59,7 +60,7 @@ module _ (m : Machine) (s : Sound m) where
       counted t true e = rw (eqb-true t 0 e) (omega (arith, once m s 0, s .idle-ready .idle-there))
       counted t false e = omega (arith, once m s t)
 
-  runner-apart : Apart (runner m) (m .delay)
+  pub runner-apart : Apart (runner m) (m .delay)
   runner-apart =
       all-tasks (λ x. x ≢ runner m) (m .delay)
       (count-absent (runner m) (tasks (m .delay)) (omega (arith, once m s (runner m), runner-there m s)))
@@ -122,3 +123,8 @@ module _ (m : Machine) (s : Sound m) where
   pub left-same : (t : ℕ) → 0 < t → left (m .clock) t (queued (m .delay)) ≡ wakes-left m t
   unfolding wakes-left
   left-same t p = left-is (m .clock) t p (m .delay) delay-lined
+
+pub follows-is : (cs : List Command) (m : Machine) → Sound m → follows m cs (queued (m .delay)) ≡ queued (run m cs .delay)
+unfolding follows run
+follows-is [] m s = refl
+follows-is (c ∷ cs) m s = rw (beside-is m s c) (follows-is cs (next m c) (next-sound m s c))

@@ -10,23 +10,23 @@ use mathlib.Core.List.{List, [], _∷_}
 use lib.Dec.{eqb, leb}
 use lib.ListN.{length}
 use Rattle.rules.specs.Line.{at, count, front, behind-front, empty, by-time}
-use Rattle.rules.specs.Machine.{Machine, Command, task-count, tasks}
+use Rattle.rules.specs.Machine.{Machine, Command, task-count, tasks, runner}
 use Rattle.rules.specs.Machine as M
 use Rattle.rules.specs.Refusals.{refusal}
 use Rattle.rules.specs.Sound.{sound}
-use Rattle.rules.specs.Run.{released}
+use Rattle.rules.specs.Run.{accepts, released, wakes-left}
 use Rattle.rules.specs.Run as R
 use Rattle.rules.proofs.Words.{cmd}
 use Rattle.rules.proofs.Sounds.{Sound, tests-sound}
 use Rattle.rules.proofs.Step.{run-sound, fresh-sound}
 use Rattle.queue_chip.specs.declared.Queue.{Queue}
-use Rattle.queue_chip.specs.Queue.{none, insert, before, searched, taken, woken, wake, delayed, beside, read}
+use Rattle.queue_chip.specs.Queue.{none, insert, before, searched, taken, woken, wake, left, delayed, beside, read}
 use Rattle.queue_chip.specs.Chip.{Chip, with-delay, fresh, next, answer, question, run, answers}
-use Rattle.queue_chip.specs.Words.{Apart, Lined, queued, Holds, InRegisters, InTable, chip-of}
+use Rattle.queue_chip.specs.Words.{Apart, Lined, queued, StandsFor, InRegisters, InTable, follows, chip-of}
 use Rattle.queue_chip.proofs.Search.{no-worse, below, nobody}
 use Rattle.queue_chip.proofs.Laws.{insert-is, taken-is, wake-is, delayed-not, read-is, stands-once, empty-exactly}
 use Rattle.queue_chip.proofs.Laws.{idle-free, free-cells, ages-few, ties-settled}
-use Rattle.queue_chip.proofs.Runs.{delay-lined, delay-short, beside-is, wake-releases}
+use Rattle.queue_chip.proofs.Runs.{delay-lined, delay-short, runner-apart, beside-is, follows-is, wake-releases, left-same}
 use Rattle.queue_chip.proofs.Chips.{answer-is, question-is, run-is, answers-are, fresh-is}
 
 -- ## The promise
@@ -76,12 +76,12 @@ module _ (cs : List Command) where
   reached = rw fresh-is (run-is cs M.fresh fresh-sound)
 
   -- The relation between queue and delay line holds behind every run.
-  pub queue-holds : Holds (run fresh cs .queue) (R.run M.fresh cs .delay)
+  pub queue-stands : StandsFor (run fresh cs .queue) (R.run M.fresh cs .delay)
   unfolding chip-of
-  queue-holds = ap (λ (k : Chip). k .queue) reached
+  queue-stands = ap (λ (k : Chip). k .queue) reached
 
   of-queue : (P : Queue → Type 0) → P (queued (behind .delay)) → P (run fresh cs .queue)
-  of-queue P p = subst P (sym queue-holds) p
+  of-queue P p = subst P (sym queue-stands) p
 
   -- The registers are empty exactly where nobody is delayed; and then the table is empty too.
   -- Rules out: registers that stay empty while someone sleeps in the table; a task that is kept there when all have left. Leaves: who stands in them.
@@ -90,7 +90,7 @@ module _ (cs : List Command) where
 
   pub empty-is-none : run fresh cs .queue .task ≡ 0 → run fresh cs .queue ≡ none
   unfolding queued
-  empty-is-none z = queue-holds ∙ ap queued (registers-empty .0 z)
+  empty-is-none z = queue-stands ∙ ap queued (registers-empty .0 z)
 
   -- A task is delayed exactly where it stands in the registers or in the table, and it never stands in both.
   -- Rules out: a task that is lost on the way between them, or left in the table when it has come into the registers. Leaves: in which order they wake (next).
@@ -158,26 +158,48 @@ unfolding searched
 search-finds-nobody times ages f = nobody times ages _ (λ u h. f u (omega arith))
 
 -- ## The relation, kept
--- A queue that holds a delay line (tasks 1..31, each once, times rising) holds the line behind each operation: behind an insertion, of a task that is not in
--- it, the line with that task placed by its time, behind equal times; behind a search the line without its first entry; behind a Wake the line without its
--- first entry, if that is due.
+-- A queue that stands for a delay line (tasks 1..31, each once, times rising) stands for the line behind each operation: behind an insertion, of a task that
+-- is not in it, for the line with that task placed by its time, behind equal times; behind a search for the line without its first entry; behind a Wake for
+-- the line without its first entry, if that is due.
 -- Rules out: a tie that puts the younger into the registers, an age that is not counted up, a time or a cell that stays where the task went.
 -- Leaves: which commands insert and wake (next).
-pub insertion-keeps : (q : Queue) (l : List (ℕ × ℕ)) (n t : ℕ) → Lined l → Apart t l → length l ≤ task-count → Holds q l
-    → Holds (insert n t q) (by-time (n, t) l)
+pub insertion-keeps : (q : Queue) (l : List (ℕ × ℕ)) (n t : ℕ) → Lined l → Apart t l → length l ≤ task-count → StandsFor q l
+    → StandsFor (insert n t q) (by-time (n, t) l)
 insertion-keeps q l n t w a few h = ap (insert n t) h ∙ insert-is n t l w a few
 
-pub search-keeps : (q : Queue) (e : ℕ × ℕ) (l : List (ℕ × ℕ)) → Lined (e ∷ l) → Holds q (e ∷ l) → Holds (taken q) l
+pub search-keeps : (q : Queue) (e : ℕ × ℕ) (l : List (ℕ × ℕ)) → Lined (e ∷ l) → StandsFor q (e ∷ l) → StandsFor (taken q) l
 search-keeps q e l w h = ap taken h ∙ taken-is e l w
 
-pub wake-keeps : (q : Queue) (l : List (ℕ × ℕ)) (now : ℕ) → Lined l → Holds q l
-    → Holds (wake now q) (cond (not (empty l) && leb (front (0, 0) l .0) now) (behind-front l) l)
+pub wake-keeps : (q : Queue) (l : List (ℕ × ℕ)) (now : ℕ) → Lined l → StandsFor q l
+    → StandsFor (wake now q) (cond (not (empty l) && leb (front (0, 0) l .0) now) (behind-front l) l)
 wake-keeps q l now w h = ap (wake now) h ∙ wake-is now l w
 
--- So every command keeps it, on every sound machine, accepted or refused.
--- Rules out: a queue that follows a refused command, or sleeps through a delay. Leaves: nothing of the step.
-pub command-keeps : (m : Machine) (c : Command) (q : Queue) → sound m ≡ true → Holds q (m .delay) → Holds (beside m c q) (R.next m c .delay)
-command-keeps m c q e h = ap (beside m c) h ∙ beside-is m (tests-sound m .sure e) c
+-- The delay line of every sound machine is such a line, of at most 31 entries, and its runner is not in it.
+-- Rules out: conditions that no machine meets. Leaves: nothing of them.
+pub lines-are-such : (m : Machine) → sound m ≡ true → Lined (m .delay) × (length (m .delay) ≤ 31) × Apart (runner m) (m .delay)
+lines-are-such m e = let s = tests-sound m .sure e in (delay-lined m s, omega (arith, delay-short m s), runner-apart m s)
+
+-- ## The queue beside a machine, as the code runs it
+module _ (m : Machine) (e : sound m ≡ true) (q : Queue) (h : StandsFor q (m .delay)) where
+  -- Every command keeps the relation, accepted or refused; and so does every run.
+  -- Rules out: a queue that follows a refused command, or sleeps through a delay. Leaves: where it begins: at the fresh machine with `none`.
+  pub command-keeps : (c : Command) → StandsFor (beside m c q) (R.next m c .delay)
+  command-keeps c = ap (beside m c) h ∙ beside-is m (tests-sound m .sure e) c
+
+  pub run-keeps : (cs : List Command) → StandsFor (follows m cs q) (R.run m cs .delay)
+  run-keeps cs = ap (follows m cs) h ∙ follows-is cs m (tests-sound m .sure e)
+
+  -- An accepted Wake releases whom the queue says, and "Wakes left" is the queue's.
+  -- Rules out: a queue whose own answers are not the machine's. Leaves: nothing of both.
+  pub wake-is-queues : (a b v : ℕ) → released m (cmd 5 a b v) ≡ cond (accepts m (cmd 5 a b v)) (woken (m .clock) q) 0
+  wake-is-queues a b v = rw h (wake-releases m (tests-sound m .sure e) a b v)
+
+  pub left-is-queues : (t : ℕ) → 0 < t → wakes-left m t ≡ left (m .clock) t q
+  left-is-queues t p = rw h (sym (left-same m (tests-sound m .sure e) t p))
+
+pub none-stands : StandsFor none (M.fresh .delay)
+unfolding queued
+none-stands = refl
 
 -- A delay whose time is not above the clock queues nobody, whatever the queue holds.
 -- Rules out: the fault that document 01 names in document 000: a past delay in the queue, ahead of tasks that are due. Leaves: the delays above the clock.

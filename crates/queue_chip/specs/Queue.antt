@@ -28,7 +28,8 @@ none = queue 0 0 0 (replicate task-count 0) (replicate task-count 0)
 abbrev pub in-use : ℕ → Bool
 in-use age = not (eqb age 0)
 
--- One more comes in for the time n: an age beside the time m; the ages of a table.
+-- One more comes in for the time n: an age beside the time m; the ages of a table. (`more` counts up to what a byte
+-- holds.)
 unfoldable pub older : ℕ → ℕ → ℕ → ℕ
 older n m age = cond (in-use age && eqb m n) (more age) age
 

@@ -6,10 +6,11 @@ use mathlib.Core.List.{List, [], _∷_}
 use lib.Dec.{eqb}
 use lib.ListN.{set, replicate}
 use Rattle.rules.specs.Line.{at, one-if}
-use Rattle.rules.specs.Machine.{Machine, task-count}
+use Rattle.rules.specs.Machine.{Machine, Command, task-count}
+use Rattle.rules.specs.Run.{next}
 use Rattle.rules.proofs.Words.{All}
 use Rattle.queue_chip.specs.declared.Queue.{Queue}
-use Rattle.queue_chip.specs.Queue.{queue, none}
+use Rattle.queue_chip.specs.Queue.{queue, none, beside}
 use Rattle.queue_chip.specs.Chip.{Chip, chip, with-delay}
 
 -- A delay line of a sound machine: tasks 1..31, each once, times rising. And that a task is not in a line.
@@ -39,9 +40,9 @@ unfoldable pub queued : List (ℕ × ℕ) → Queue
 queued [] = none
 queued (e ∷ l) = queue (e .1) (e .0) (suc (equals (e .0) l)) (times-of l) (ages-of l)
 
--- THE RELATION between a queue and a delay line: the queue is the line's.
-abbrev pub Holds : Queue → List (ℕ × ℕ) → Type 0
-Holds q l = q ≡ queued l
+-- THE RELATION between a queue and a delay line: the queue stands for the line.
+abbrev pub StandsFor : Queue → List (ℕ × ℕ) → Type 0
+StandsFor q l = q ≡ queued l
 
 -- a task stands in the registers; in the table
 abbrev pub InRegisters : Queue → ℕ → Type 0
@@ -49,6 +50,11 @@ InRegisters q t = q .task ≡ t
 
 abbrev pub InTable : Queue → ℕ → Type 0
 InTable q t = at (q .ages) t ≢ 0
+
+-- The queue beside a machine, behind some commands: each moves the queue by the machine as it was before it.
+unfoldable pub follows : Machine → List Command → Queue → Queue
+follows m [] q = q
+follows m (c ∷ cs) q = follows (next m c) cs (beside m c q)
 
 -- the chip that is as a machine is
 unfoldable pub chip-of : Machine → Chip
