@@ -1,6 +1,6 @@
 -- The queue at work, by computing: registers and table along a short run, whom the search finds, and what becomes of a past delay. Assumes nothing.
-use Prim.Native.Nat.{ℕ, suc}
-use mathlib.Core.Path.{_≡_, refl}
+use Prim.Native.Nat.{ℕ, zero, suc}
+use mathlib.Core.Path.{_≡_, refl, ap, _∙_}
 use mathlib.Core.Bool.{cond, _&&_}
 use mathlib.Core.List.{List, [], _∷_, _++_}
 use lib.Dec.{eqb}
@@ -120,7 +120,7 @@ unfolding insert delayed above preempts older aged
 past-delay-shows = refl
 
 -- If it were queued: 22 would push 21 out of the registers, and 21, which had one Wake left, would have two. The Wake releases 22, and leaves the queue as
--- it was: so 22 can do it again, and 21 stays due for ever.
+-- it was: so 22 can do it again, as often as it likes, and 21 stays due for ever.
 abbrev round : Queue → Queue
 round q = Q.wake 90 (insert 30 22 q)
 
@@ -129,3 +129,15 @@ pub past-delay-queued :
     (22 ∷ 30 ∷ 1 ∷ 21 ∷ 80 ∷ 1 ∷ []) ∷ (1 ∷ 2 ∷ 22 ∷ []) ∷ (21 ∷ 80 ∷ 1 ∷ []) ∷ []
 unfolding insert preempts older aged soonest searched moved-up taken woken Q.wake how-many ahead-of left
 past-delay-queued = refl
+
+abbrev rounds : ℕ → Queue → Queue
+rounds zero q = q
+rounds (suc k) q = rounds k (round q)
+
+round-is-vain : round first ≡ first
+unfolding insert preempts soonest searched moved-up taken Q.wake
+round-is-vain = refl
+
+pub due-for-ever : (k : ℕ) → rounds k first ≡ first
+due-for-ever zero = refl
+due-for-ever (suc k) = ap (rounds k) round-is-vain ∙ due-for-ever k
