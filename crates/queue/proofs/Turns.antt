@@ -116,9 +116,9 @@ module _ (q : Queue) where
         go false c = by-preempts false c e
 
   module _ (now t : ℕ) where
-    pub left-own : q .task ≡ t → cond (leb (q .time) now) 1 0 ≡ left now t q
+    pub left-own : q .task ≡ t → cond (due now q) 1 0 ≡ left now t q
     unfolding left
-    left-own e = rw (eq-eqb (q .task) t e) (go (leb (q .time) now))
+    left-own e = rw (eq-eqb (q .task) t e) (go (due now q))
       where
         go : (b : Bool) → cond b 1 0 ≡ one-if b
         go true = refl

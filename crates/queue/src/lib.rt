@@ -54,7 +54,7 @@ fn aged_by(n: u64, times: [u64; 32], ages: [u8; 32]) -> [u8; 32]
 fn is_sooner(n: u64, a: u8, m: u64, b: u8) -> bool
     ensures { λ r. ⌜ r ≡ sooner n a m b ⌝ }
 {
-    (a != 0) & (!(b != 0) | (n < m) | ((n == m) & (b < a)))
+    (a != 0) & ((b == 0) | (n < m) | ((n == m) & (b < a)))
 }
 
 // The search: the task of the table with the least time, of equal times the oldest; 0 where the table has none.
@@ -116,11 +116,11 @@ fn put(n: u64, t: TaskID, q: Queue) -> Queue
     ensures { λ r. ⌜ r ≡ tabled n (t .0) q ⌝ }
 {
     let mut times = q.times;
-    let before = q.ages;
+    let held = q.ages;
     let time = q.time;
     let age = q.age;
     let own = older_by(n, time, age);
-    let mut ages = aged_by(n, times, before);
+    let mut ages = aged_by(n, times, held);
     set_time(&mut times, t, n);
     set_task(&mut ages, t, 1);
     Queue {
@@ -206,7 +206,7 @@ pub fn wakes_left(now: u64, t: TaskID, q: Queue) -> u8
     let task = q.task;
     let time = q.time;
     if task == t.0 {
-        return choose(time <= now, 1, 0);
+        return choose((task != 0) & (time <= now), 1, 0);
     }
     let m = time_of(&times, t);
     let b = of_task(&ages, t);

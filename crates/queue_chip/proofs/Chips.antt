@@ -7,9 +7,9 @@ use mathlib.Core.Bool.{Bool, true, false, cond, not, _&&_}
 use mathlib.Core.List.{List, [], _∷_}
 use lib.Dec.{eqb, leb, ltb}
 use lib.ListN.{getD}
-use borrow.Author.Tests.{ne-eqb, leb-true}
+use borrow.Author.Tests.{ne-eqb}
 use Rattle.rules.specs.Line.{at, at-tail, front, first-alone, within}
-use Rattle.rules.specs.Machine.{Machine, Command, task-count, active, created, runner, running, for-entry}
+use Rattle.rules.specs.Machine.{Machine, Command, task-count, active, created, running, for-entry}
 use Rattle.rules.specs.Machine as M
 use Rattle.rules.specs.declared.Kind.{Kind}
 use Rattle.rules.specs.declared.Kind.the-variants.{NoKind, Creating, Declaring, Starting, Delaying, Waking, Advancing, Opening, Entering, Ending}
@@ -17,13 +17,12 @@ use Rattle.rules.specs.Kinds.{kind}
 use Rattle.rules.specs.Table.{Out, same, take, yield, close, sleep, await, Rel, none, due, serve, first-due, opens, effect-of, effect, freed}
 use Rattle.rules.specs.Table.{freed-by, enter, later, release, leave, carry}
 use Rattle.rules.specs.Refusals.{checks-of, first-number, refusal}
-use Rattle.rules.specs.Run.{accepts, released, wakes-left, Left}
+use Rattle.rules.specs.Run.{accepts, released, Left}
 use Rattle.rules.specs.Run as R
 use Rattle.rules.proofs.Sounds.{Sound}
-use Rattle.rules.proofs.Tests.{both-true}
 use Rattle.rules.proofs.Step.{next-sound}
 use Rattle.queue_chip.specs.declared.Queue.{Queue}
-use Rattle.queue_chip.specs.Queue.{left, follow, beside}
+use Rattle.queue_chip.specs.Queue.{beside}
 use Rattle.queue_chip.specs.Chip.{with-delay, chip, fresh, face, next, answer, question, run, answers}
 use Rattle.queue_chip.specs.Words.{Lined, queued, chip-of}
 use Rattle.queue_chip.proofs.Runs.{delay-lined, beside-is, left-same}
@@ -159,9 +158,10 @@ face-is m s = go (m .delay) (delay-lined m s)
     go [] w = refl
     go (e ∷ l) w = rw (ne-eqb (e .1) 0 (λ q. omega (arith, w .0)))
 
-beside-same : (m : Machine) (l : List (ℕ × ℕ)) (c : Command) (q : Queue) → beside (with-delay m l) c q ≡ beside m c q
+-- the queue's own step looks at no delay line: of the machine it takes the refusal, the clock and the runner
+pub beside-same : (m : Machine) (l : List (ℕ × ℕ)) (c : Command) (q : Queue) → beside (with-delay m l) c q ≡ beside m c q
 unfolding beside
-beside-same m l c q = ap (λ (x : ℕ). cond (eqb x 0) (follow (kind c) (m .clock) (c .value) (runner m) q) q) (refusal-same m l c)
+beside-same m l c q = rw (refusal-same m l c)
 
 pub next-is : (m : Machine) → Sound m → (c : Command) → next (chip-of m) c ≡ chip-of (R.next m c)
 unfolding next chip-of
@@ -176,14 +176,13 @@ answer-is m s c = ap (λ (n : Machine). R.answer n c) (face-is m s) ∙ same-ans
 
 pub question-is : (m : Machine) → Sound m → (t : ℕ) → question (chip-of m) t ≡ R.question m t
 unfolding question R.question chip-of
-question-is m s t = go (within 1 (task-count - 1) t) refl
+question-is m s t = ap asked (left-same m s t)
   where
-    asked : Bool → ℕ → Left
-    asked b n = cond (not b) (record { code = 4; left = 0 }) (cond (not (created m t)) (record { code = 6; left = 0 }) (record { code = 0; left = n }))
-
-    go : (b : Bool) → within 1 (task-count - 1) t ≡ b → asked b (left (m .clock) t (queued (m .delay))) ≡ asked b (wakes-left m t)
-    go true e = rw (left-same m s t (leb-true 1 t (both-true (leb 1 t) (leb t 31) e .0)))
-    go false e = refl
+    asked : ℕ → Left
+    asked n =
+        cond (not (within 1 (task-count - 1) t)) (record { code = 4; left = 0 })
+        (cond (not (created m t)) (record { code = 6; left = 0 })
+        (record { code = 0; left = n }))
 
 -- ## Along a run
 pub run-is : (cs : List Command) (m : Machine) → Sound m → run (chip-of m) cs ≡ chip-of (R.run m cs)

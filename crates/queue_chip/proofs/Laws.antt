@@ -14,11 +14,11 @@ use Rattle.rules.specs.Line.{at, one-if, count, by-time, front, behind-front, e
 use Rattle.rules.specs.Machine.{task-count, tasks}
 use Rattle.rules.specs.Run.{is-due, ahead}
 use Rattle.rules.proofs.Words.{All}
-use Rattle.rules.proofs.Lists.{all-map, eq-or-ne, lt-or-ge}
+use Rattle.rules.proofs.Lists.{all-map, all-place, eq-or-ne, lt-or-ge}
 use Rattle.kernel_line.specs.Tables.{more}
 use Rattle.queue_chip.specs.Queue.{queue, none, in-use, older, aged, preempts, pushed, tabled, insert, before, searched, moved-up, taken}
 use Rattle.queue_chip.specs.declared.Queue.{Queue}
-use Rattle.queue_chip.specs.Queue.{woken, wake, how-many, ahead-of, cell-due, left, above, delayed, read}
+use Rattle.queue_chip.specs.Queue.{due, woken, wake, how-many, ahead-of, cell-due, left, above, delayed, read}
 use Rattle.queue_chip.specs.Words.{Apart, Lined, equals, times-of, ages-of, queued, InRegisters, InTable}
 use Rattle.queue_chip.proofs.Search.{Sooner, sooner-yes, sooner-no, sooner-self, nobody, found}
 
@@ -100,15 +100,20 @@ cell-after n (e ∷ l) w a u = ⊎-elim mine (others (cell-after n l (w .4) (a .
     others (inl z) q = inl (other-age e l u q ∙ z)
     others (inr h) q = rw (other-age e l u q, other-time e l u q) (inr (h .0, λ x. omega (arith, h .1 x)))
 
+-- who stands behind the front of a line is no sooner than the front, and of the same time younger
+cell-behind : (e : ℕ × ℕ) (l : List (ℕ × ℕ)) → Lined (e ∷ l) → (u : ℕ)
+    → (at (ages-of l) u ≡ 0) ⊎ ((e .0 ≤ at (times-of l) u) × (at (times-of l) u ≡ e .0 → at (ages-of l) u < suc (equals (e .0) l)))
+cell-behind e l w u = go (cell-after (e .0) l (w .4) (w .3) u)
+  where
+    go : (at (ages-of l) u ≡ 0) ⊎ ((e .0 ≤ at (times-of l) u) × (at (times-of l) u ≡ e .0 → at (ages-of l) u ≤ equals (e .0) l))
+        → (at (ages-of l) u ≡ 0) ⊎ ((e .0 ≤ at (times-of l) u) × (at (times-of l) u ≡ e .0 → at (ages-of l) u < suc (equals (e .0) l)))
+    go (inl z) = inl z
+    go (inr h) = inr (h .0, λ x. omega (arith, h .1 x))
+
 -- the front of a line stands before all others, and nobody before it
 module _ (e : ℕ × ℕ) (l : List (ℕ × ℕ)) (w : Lined (e ∷ l)) (u : ℕ) (n : u ≢ e .1) where
   ahead-of-cell : Sooner (e .0) (suc (equals (e .0) l)) (at (times-of (e ∷ l)) u) (at (ages-of (e ∷ l)) u)
-  ahead-of-cell = (λ z. omega arith, rw (other-age e l u n, other-time e l u n) (go (cell-after (e .0) l (w .4) (w .3) u)))
-    where
-      go : (at (ages-of l) u ≡ 0) ⊎ ((e .0 ≤ at (times-of l) u) × (at (times-of l) u ≡ e .0 → at (ages-of l) u ≤ equals (e .0) l))
-          → (at (ages-of l) u ≡ 0) ⊎ ((e .0 ≤ at (times-of l) u) × (at (times-of l) u ≡ e .0 → at (ages-of l) u < suc (equals (e .0) l)))
-      go (inl z) = inl z
-      go (inr h) = inr (h .0, λ x. omega (arith, h .1 x))
+  ahead-of-cell = (λ z. omega arith, rw (other-age e l u n, other-time e l u n) (cell-behind e l w u))
 
   front-before : before (times-of (e ∷ l)) (ages-of (e ∷ l)) (e .1) u ≡ true
   front-before = rw (own-time e l (w .1), own-age e l (w .1)) (sooner-yes _ _ _ _ ahead-of-cell)
@@ -250,6 +255,23 @@ module _ (n : ℕ) where
           )
           (set-comm (aged n (times-of l) (ages-of l)) t (e .1) 1 (suc (one-if (eqb (e .0) n) + equals (e .0) l)) (λ q. a .0 (sym q)))
 
+-- the line behind an insertion is such a line again
+pub by-time-lined : (n t : ℕ) (l : List (ℕ × ℕ)) → 0 < t → t < task-count → Lined l → Apart t l → Lined (by-time (n, t) l)
+by-time-lined n t [] p h w a = (p, h, tt, tt, tt)
+by-time-lined n t (e ∷ l) p h w a = go (ltb n (e .0)) refl (by-time-lined n t l p h (w .4) (a .1))
+  where
+    go : (b : Bool) → ltb n (e .0) ≡ b → Lined (by-time (n, t) l) → Lined (cond b ((n, t) ∷ e ∷ l) (e ∷ by-time (n, t) l))
+    go true c ih =
+        let late : n < e .0 = ltb-true n (e .0) c in
+        (p, h, a, (omega arith, all-map (λ f d. let r : e .0 ≤ f .0 = d in omega arith) l (w .3)), w)
+    go false c ih = (
+      w .0,
+      w .1,
+      all-place (λ f. f .1 ≢ e .1) (λ f. ltb n (f .0)) (n, t) l (λ q. a .0 (sym q)) (w .2),
+      all-place (λ f. e .0 ≤ f .0) (λ f. ltb n (f .0)) (n, t) l (ltb-false n (e .0) c) (w .3),
+      ih,
+    )
+
 -- the registers' time is passed by a sooner one alone
 pub preempts-sooner : (n m : ℕ) → preempts n m ≡ true → n < m
 unfolding preempts
@@ -381,10 +403,15 @@ due-is now t (e ∷ l) w = go (eqb (e .1) t) refl (due-is now t l (w .4))
         let d : t ≢ e .1 = λ q. eqb-false _ _ c (sym q) in
         rw (other-time e l t d, other-age e l t d) ih
 
-pub left-is : (now t : ℕ) → 0 < t → (l : List (ℕ × ℕ)) → Lined l → left now t (queued l) ≡ cond (is-due now t l) (suc (ahead t l)) 0
+-- nobody is delayed: none are left, of idle either
+none-left : (now t : ℕ) (b : Bool) → cond b (one-if (due now none)) (cond (cell-due now t none) (suc (ahead-of t none)) 0) ≡ 0
+none-left now t true = refl
+none-left now t false = rw (zero-cell task-count t)
+
+pub left-is : (now t : ℕ) (l : List (ℕ × ℕ)) → Lined l → left now t (queued l) ≡ cond (is-due now t l) (suc (ahead t l)) 0
 unfolding left queued
-left-is now t p [] w = rw (ne-eqb 0 t (λ q. omega arith), zero-cell task-count t)
-left-is now t p (e ∷ l) w = go (eqb (e .1) t) refl
+left-is now t [] w = none-left now t (eqb 0 t)
+left-is now t (e ∷ l) w = go (eqb (e .1) t) refl
   where
     mine : (b : Bool) → one-if b ≡ cond (b || false) 1 0
     mine true = refl
@@ -396,9 +423,11 @@ left-is now t p (e ∷ l) w = go (eqb (e .1) t) refl
     in-table false c = refl
 
     go : (b : Bool) → eqb (e .1) t ≡ b
-        → cond b (one-if (leb (e .0) now)) (cond (cell-due now t (queued (e ∷ l))) (suc (ahead-of t (queued (e ∷ l)))) 0)
+        → cond b (one-if (not (eqb (e .1) 0) && leb (e .0) now)) (cond (cell-due now t (queued (e ∷ l))) (suc (ahead-of t (queued (e ∷ l)))) 0)
         ≡ cond (b && leb (e .0) now || is-due now t l) (suc (cond b 0 (suc (ahead t l)))) 0
-    go true c = let z : t ≡ e .1 = sym (eqb-true _ _ c) in rw (due-is now t l (w .4), z, absent-age (e .1) l (w .2)) (mine (leb (e .0) now))
+    go true c =
+        let z : t ≡ e .1 = sym (eqb-true _ _ c) in
+        rw (ne-eqb (e .1) 0 (λ q. omega (arith, w .0)), due-is now t l (w .4), z, absent-age (e .1) l (w .2)) (mine (leb (e .0) now))
     go false c = rw (due-is now t l (w .4)) (in-table (in-use (at (ages-of l) t) && leb (at (times-of l) t) now) refl)
 
 -- ## The line, read off its queue
@@ -452,8 +481,25 @@ unfolding queued
 empty-exactly [] w = (λ z. refl, λ z. refl)
 empty-exactly (e ∷ l) w = (λ z. absurd (omega (arith, w .0)), λ z. ap (λ (k : List (ℕ × ℕ)). queued k .task) z)
 
+-- the registers hold the soonest, with an age
+pub registers-first : (u : ℕ) (l : List (ℕ × ℕ)) → Lined l → let q = queued l in InTable q u
+    → (q .time ≤ at (q .times) u) × (at (q .times) u ≡ q .time → at (q .ages) u < q .age)
+unfolding queued ages-of
+registers-first u [] w h = absurd (h (no-age u))
+registers-first u (e ∷ l) w h = go (cell-behind e l w u)
+  where
+    go : (at (ages-of l) u ≡ 0) ⊎ ((e .0 ≤ at (times-of l) u) × (at (times-of l) u ≡ e .0 → at (ages-of l) u < suc (equals (e .0) l)))
+        → (e .0 ≤ at (times-of l) u) × (at (times-of l) u ≡ e .0 → at (ages-of l) u < suc (equals (e .0) l))
+    go (inl z) = absurd (h z)
+    go (inr g) = g
+
+pub some-age : (l : List (ℕ × ℕ)) → let q = queued l in q .task ≢ 0 → 1 ≤ q .age
+unfolding queued
+some-age [] n = absurd (n refl)
+some-age (e ∷ l) n = omega arith
+
 -- idle is never in the table; a cell that is not in use holds the time 0; and an age has a byte's room, and more
-idle-absent : (l : List (ℕ × ℕ)) → Lined l → Apart 0 l
+pub idle-absent : (l : List (ℕ × ℕ)) → Lined l → Apart 0 l
 idle-absent [] w = tt
 idle-absent (e ∷ l) w = (λ z. omega (arith, w .0), idle-absent l (w .4))
 

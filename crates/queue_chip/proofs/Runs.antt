@@ -8,7 +8,7 @@ use mathlib.Core.Bool.{Bool, true, false, cond, _&&_}
 use mathlib.Core.List.{List, [], _∷_}
 use lib.Dec.{eqb, ltb}
 use lib.ListN.{length}
-use borrow.Author.Tests.{eqb-true}
+use borrow.Author.Tests.{eqb-true, ne-eqb}
 use Rattle.rules.specs.Line.{one-if, count, front, behind-front, by-time}
 use Rattle.rules.specs.Machine.{Machine, Command, task-count, tasks, runner, for-entry}
 use Rattle.rules.specs.declared.Kind.{Kind}
@@ -22,7 +22,7 @@ use Rattle.rules.proofs.Sounds.{Sound, once, runner-there}
 use Rattle.rules.proofs.Step.{next-sound}
 use Rattle.queue_chip.specs.Queue.{woken, left, follow, beside}
 use Rattle.queue_chip.specs.Words.{Apart, Lined, queued, follows}
-use Rattle.queue_chip.proofs.Laws.{delayed-is, wake-is, woken-is, left-is}
+use Rattle.queue_chip.proofs.Laws.{delayed-is, wake-is, woken-is, left-is, idle-absent}
 
 -- ## The delay line of a sound machine
 all-tasks : (P : ℕ → Type 0) (l : List (ℕ × ℕ)) → All P (tasks l) → All (λ f. P (f .1)) l
@@ -45,20 +45,38 @@ tasks-length : (l : List (ℕ × ℕ)) → length (tasks l) ≡ length l
 tasks-length [] = refl
 tasks-length (e ∷ l) = ap suc (tasks-length l)
 
+-- such a line is short: its tasks are below 32, each once, and idle is not among them
+count-apart : (t : ℕ) (l : List (ℕ × ℕ)) → Apart t l → count t (tasks l) ≡ 0
+count-apart t [] a = refl
+count-apart t (e ∷ l) a = rw (ne-eqb t (e .1) (λ q. a .0 (sym q))) (omega (arith, count-apart t l (a .1)))
+
+count-lined : (t : ℕ) (l : List (ℕ × ℕ)) → Lined l → count t (tasks l) ≤ 1
+count-lined t [] w = omega arith
+count-lined t (e ∷ l) w = go (eqb t (e .1)) refl (count-lined t l (w .4))
+  where
+    go : (b : Bool) → eqb t (e .1) ≡ b → count t (tasks l) ≤ 1 → one-if b + count t (tasks l) ≤ 1
+    go true c ih = rw (eqb-true t (e .1) c) (omega (arith, count-apart (e .1) l (w .2)))
+    go false c ih = omega arith
+
+tasks-below : (l : List (ℕ × ℕ)) → Lined l → All (λ t. t < task-count) (tasks l)
+tasks-below [] w = tt
+tasks-below (e ∷ l) w = (w .1, tasks-below l (w .4))
+
+pub lined-short : (l : List (ℕ × ℕ)) → Lined l → length l < task-count
+lined-short l w = omega (arith, tasks-length l, few task-count (0 ∷ tasks l) (omega arith, tasks-below l w) (λ t. counted t (eqb t 0) refl))
+  where
+    counted : (t : ℕ) (b : Bool) → eqb t 0 ≡ b → one-if b + count t (tasks l) ≤ 1
+    counted t true c = rw (eqb-true t 0 c) (omega (arith, count-apart 0 l (idle-absent l w)))
+    counted t false c = omega (arith, count-lined t l w)
+
 module _ (m : Machine) (s : Sound m) where
   pub delay-lined : Lined (m .delay)
   delay-lined =
       lined-of (m .delay) (λ t. omega (arith, once m s t)) (omega (arith, once m s 0, s .idle-ready .idle-there)) (s .stand-once .delay-tasks)
       (s .in-order .times-rise)
 
-  -- (idle is never delayed, so at most 31 are)
   pub delay-short : length (m .delay) < task-count
-  delay-short =
-      omega (arith, tasks-length (m .delay), few task-count (0 ∷ tasks (m .delay)) (omega arith, s .stand-once .delay-tasks) (λ t. counted t (eqb t 0) refl))
-    where
-      counted : (t : ℕ) (b : Bool) → eqb t 0 ≡ b → one-if b + count t (tasks (m .delay)) ≤ 1
-      counted t true e = rw (eqb-true t 0 e) (omega (arith, once m s 0, s .idle-ready .idle-there))
-      counted t false e = omega (arith, once m s t)
+  delay-short = lined-short (m .delay) delay-lined
 
   pub runner-apart : Apart (runner m) (m .delay)
   runner-apart =
@@ -120,9 +138,9 @@ module _ (m : Machine) (s : Sound m) where
   unfolding released
   wake-releases a b v = rw (woken-is (m .clock) (m .delay) delay-lined, wake-frees (m .delay) (first-due m) refl)
 
-  pub left-same : (t : ℕ) → 0 < t → left (m .clock) t (queued (m .delay)) ≡ wakes-left m t
+  pub left-same : (t : ℕ) → left (m .clock) t (queued (m .delay)) ≡ wakes-left m t
   unfolding wakes-left
-  left-same t p = left-is (m .clock) t p (m .delay) delay-lined
+  left-same t = left-is (m .clock) t (m .delay) delay-lined
 
 pub follows-is : (cs : List Command) (m : Machine) → Sound m → follows m cs (queued (m .delay)) ≡ queued (run m cs .delay)
 unfolding follows run

@@ -16,23 +16,11 @@ use Rattle.queue_chip.specs.Queue.{sooner, before, soonest}
 abbrev pub Sooner : ℕ → ℕ → ℕ → ℕ → Type 0
 Sooner n a m b = (a ≢ 0) × ((b ≡ 0) ⊎ ((n ≤ m) × (m ≡ n → b < a)))
 
-pub sooner-yes : (n a m b : ℕ) → Sooner n a m b → sooner n a m b ≡ true
-sooner-yes n a m b w = rw (ne-eqb a 0 (w .0)) (go (w .1) (eqb b 0) refl (ltb n m) refl)
-  where
-    go : (b ≡ 0) ⊎ ((n ≤ m) × (m ≡ n → b < a)) → (x : Bool) → eqb b 0 ≡ x → (y : Bool) → ltb n m ≡ y → (not (not x) || y || eqb n m && ltb b a) ≡ true
-    go g true e y f = refl
-    go g false e true f = refl
-    go (inl z) false e false f = absurd (eqb-false _ _ e z)
-    go (inr w) false e false f =
-        let k : m ≤ n = ltb-false n m f in
-        let z : n ≡ m = omega (arith, w .0) in
-        rw (eq-eqb n m z, lt-ltb b a (w .1 (sym z)))
-
 pub sooner-sure : (n a m b : ℕ) → sooner n a m b ≡ true → Sooner n a m b
 sooner-sure n a m b e = go (eqb a 0) refl (eqb b 0) refl (ltb n m) refl (eqb n m) refl (ltb b a) refl e
   where
     go : (v : Bool) → eqb a 0 ≡ v → (w : Bool) → eqb b 0 ≡ w → (x : Bool) → ltb n m ≡ x → (y : Bool) → eqb n m ≡ y → (z : Bool) → ltb b a ≡ z
-        → (not v && (not (not w) || x || y && z)) ≡ true → Sooner n a m b
+        → (not v && (w || x || y && z)) ≡ true → Sooner n a m b
     go true p w q x r y s z t h = absurd (true≢false (sym h))
     go false p true q x r y s z t h = (eqb-false a 0 p, inl (eqb-true b 0 q))
     go false p false q true r y s z t h = let lt : n < m = ltb-true n m r in (eqb-false a 0 p, inr (omega arith, λ i. absurd (omega arith)))
@@ -41,6 +29,18 @@ sooner-sure n a m b e = go (eqb a 0) refl (eqb b 0) refl (ltb n m) refl (eqb n m
         (eqb-false a 0 p, inr (omega arith, λ i. ltb-true b a t))
     go false p false q false r true s false t h = absurd (true≢false (sym h))
     go false p false q false r false s z t h = absurd (true≢false (sym h))
+
+pub sooner-yes : (n a m b : ℕ) → Sooner n a m b → sooner n a m b ≡ true
+sooner-yes n a m b w = rw (ne-eqb a 0 (w .0)) (go (w .1) (eqb b 0) refl (ltb n m) refl)
+  where
+    go : (b ≡ 0) ⊎ ((n ≤ m) × (m ≡ n → b < a)) → (x : Bool) → eqb b 0 ≡ x → (y : Bool) → ltb n m ≡ y → (x || y || eqb n m && ltb b a) ≡ true
+    go g true e y f = refl
+    go g false e true f = refl
+    go (inl z) false e false f = absurd (eqb-false _ _ e z)
+    go (inr w) false e false f =
+        let k : m ≤ n = ltb-false n m f in
+        let z : n ≡ m = omega (arith, w .0) in
+        rw (eq-eqb n m z, lt-ltb b a (w .1 (sym z)))
 
 -- Of two cells of which the first is in use and does not stand before the second: the second is in use, no later, and of the same time no younger.
 pub sooner-not : (n a m b : ℕ) → sooner n a m b ≡ false → a ≢ 0 → (b ≢ 0) × (m ≤ n) × (n ≡ m → a ≤ b)

@@ -5,7 +5,7 @@ use Prim.Native.Nat.{ℕ, _≤_, _<_}
 use native.Mathlib.Omega.{arith}
 use mathlib.Core.Path.{_≡_, refl, sym, ap, subst, _∙_}
 use mathlib.Core.Logic.{_≢_, _↔_, _⊎_}
-use mathlib.Core.Bool.{true, cond, not, _&&_}
+use mathlib.Core.Bool.{Bool, true, false, cond, not, _&&_}
 use mathlib.Core.List.{List, [], _∷_}
 use lib.Dec.{eqb, leb}
 use lib.ListN.{length}
@@ -20,14 +20,14 @@ use Rattle.rules.proofs.Words.{cmd}
 use Rattle.rules.proofs.Sounds.{Sound, tests-sound}
 use Rattle.rules.proofs.Step.{run-sound, fresh-sound}
 use Rattle.queue_chip.specs.declared.Queue.{Queue}
-use Rattle.queue_chip.specs.Queue.{none, insert, before, searched, taken, woken, wake, left, delayed, beside, read}
+use Rattle.queue_chip.specs.Queue.{none, insert, before, searched, taken, woken, wake, left, delayed, follow, beside, read}
 use Rattle.queue_chip.specs.Chip.{Chip, with-delay, fresh, next, answer, question, run, answers}
 use Rattle.queue_chip.specs.Words.{Apart, Lined, queued, StandsFor, InRegisters, InTable, follows, chip-of}
 use Rattle.queue_chip.proofs.Search.{no-worse, below, nobody}
-use Rattle.queue_chip.proofs.Laws.{insert-is, taken-is, wake-is, delayed-not, read-is, stands-once, empty-exactly}
-use Rattle.queue_chip.proofs.Laws.{idle-free, free-cells, ages-few, ties-settled}
-use Rattle.queue_chip.proofs.Runs.{delay-lined, delay-short, runner-apart, beside-is, follows-is, wake-releases, left-same}
-use Rattle.queue_chip.proofs.Chips.{answer-is, question-is, run-is, answers-are, fresh-is}
+use Rattle.queue_chip.proofs.Laws.{by-time-lined, insert-is, taken-is, wake-is, delayed-not, read-is, stands-once, empty-exactly}
+use Rattle.queue_chip.proofs.Laws.{registers-first, some-age, idle-free, free-cells, ages-few, ties-settled}
+use Rattle.queue_chip.proofs.Runs.{lined-short, delay-lined, delay-short, runner-apart, beside-is, follows-is, wake-releases, left-same}
+use Rattle.queue_chip.proofs.Chips.{beside-same, answer-is, question-is, run-is, answers-are, fresh-is}
 
 -- ## The promise
 -- From the fresh machine the chip gives every command the answer that the machine with a delay line gives it: refusal, running task and released task. So
@@ -54,6 +54,11 @@ lefts-alike-sound m cs t e = let s = tests-sound m .sure e in rw (run-is cs m s)
 pub no-line : (k : Chip) (c : Command) → next k c .machine .delay ≡ []
 unfolding next
 no-line k c = refl
+
+-- Nor does the queue's own step look at one: beside a machine it does the same, whatever delay line that machine has.
+-- Rules out: a queue that is read off the machine's line. Leaves: what it takes of the machine: whether it refuses, its clock and its runner.
+pub no-line-seen : (m : Machine) (l : List (ℕ × ℕ)) (c : Command) (q : Queue) → beside (with-delay m l) c q ≡ beside m c q
+no-line-seen m l c q = beside-same m l c q
 
 -- All else of the chip is the machine's.
 -- Rules out: a queue that disturbs the ready line, an object or the clock. Leaves: the queue.
@@ -91,6 +96,17 @@ module _ (cs : List Command) where
   pub empty-is-none : run fresh cs .queue .task ≡ 0 → run fresh cs .queue ≡ none
   unfolding queued
   empty-is-none z = queue-stands ∙ ap queued (registers-empty .0 z)
+
+  -- The registers hold the soonest: whoever stands in the table has no sooner time, and of the same time is younger. Who stands in them has an age.
+  -- Rules out: a later time in the registers, or the younger of a tie. Leaves: the order in the table (read-off).
+  pub registers-soonest : (u : ℕ) → let q = run fresh cs .queue in InTable q u
+      → (q .time ≤ at (q .times) u) × (at (q .times) u ≡ q .time → at (q .ages) u < q .age)
+  registers-soonest u =
+      of-queue (λ q. InTable q u → (q .time ≤ at (q .times) u) × (at (q .times) u ≡ q .time → at (q .ages) u < q .age))
+      (registers-first u (behind .delay) line)
+
+  pub registers-aged : let q = run fresh cs .queue in q .task ≢ 0 → 1 ≤ q .age
+  registers-aged = of-queue (λ q. q .task ≢ 0 → 1 ≤ q .age) (some-age (behind .delay))
 
   -- A task is delayed exactly where it stands in the registers or in the table, and it never stands in both.
   -- Rules out: a task that is lost on the way between them, or left in the table when it has come into the registers. Leaves: in which order they wake (next).
@@ -163,9 +179,8 @@ search-finds-nobody times ages f = nobody times ages _ (λ u h. f u (omega arith
 -- the line without its first entry, if that is due.
 -- Rules out: a tie that puts the younger into the registers, an age that is not counted up, a time or a cell that stays where the task went.
 -- Leaves: which commands insert and wake (next).
-pub insertion-keeps : (q : Queue) (l : List (ℕ × ℕ)) (n t : ℕ) → Lined l → Apart t l → length l ≤ task-count → StandsFor q l
-    → StandsFor (insert n t q) (by-time (n, t) l)
-insertion-keeps q l n t w a few h = ap (insert n t) h ∙ insert-is n t l w a few
+pub insertion-keeps : (q : Queue) (l : List (ℕ × ℕ)) (n t : ℕ) → Lined l → Apart t l → StandsFor q l → StandsFor (insert n t q) (by-time (n, t) l)
+insertion-keeps q l n t w a h = ap (insert n t) h ∙ insert-is n t l w a (omega (arith, lined-short l w))
 
 pub search-keeps : (q : Queue) (e : ℕ × ℕ) (l : List (ℕ × ℕ)) → Lined (e ∷ l) → StandsFor q (e ∷ l) → StandsFor (taken q) l
 search-keeps q e l w h = ap taken h ∙ taken-is e l w
@@ -174,12 +189,18 @@ pub wake-keeps : (q : Queue) (l : List (ℕ × ℕ)) (now : ℕ) → Lined l →
     → StandsFor (wake now q) (cond (not (empty l) && leb (front (0, 0) l .0) now) (behind-front l) l)
 wake-keeps q l now w h = ap (wake now) h ∙ wake-is now l w
 
+-- The line behind an insertion, of a task 1..31 that is not in it, is such a line again. (Without its first entry it is one at once: the last part of
+-- `Lined`.) So the three follow one another in any order.
+-- Rules out: a condition that the first insertion breaks. Leaves: nothing of it.
+pub insertion-lined : (l : List (ℕ × ℕ)) (n t : ℕ) → 0 < t → t < task-count → Lined l → Apart t l → Lined (by-time (n, t) l)
+insertion-lined l n t = by-time-lined n t l
+
 -- The delay line of every sound machine is such a line, of at most 31 entries, and its runner is not in it.
 -- Rules out: conditions that no machine meets. Leaves: nothing of them.
 pub lines-are-such : (m : Machine) → sound m ≡ true → Lined (m .delay) × (length (m .delay) ≤ 31) × Apart (runner m) (m .delay)
 lines-are-such m e = let s = tests-sound m .sure e in (delay-lined m s, omega (arith, delay-short m s), runner-apart m s)
 
--- ## The queue beside a machine, as the code runs it
+-- ## The queue beside a machine, as a caller is to run it
 module _ (m : Machine) (e : sound m ≡ true) (q : Queue) (h : StandsFor q (m .delay)) where
   -- Every command keeps the relation, accepted or refused; and so does every run.
   -- Rules out: a queue that follows a refused command, or sleeps through a delay. Leaves: where it begins: at the fresh machine with `none`.
@@ -194,14 +215,24 @@ module _ (m : Machine) (e : sound m ≡ true) (q : Queue) (h : StandsFor q (m .d
   pub wake-is-queues : (a b v : ℕ) → released m (cmd 5 a b v) ≡ cond (accepts m (cmd 5 a b v)) (woken (m .clock) q) 0
   wake-is-queues a b v = rw h (wake-releases m (tests-sound m .sure e) a b v)
 
-  pub left-is-queues : (t : ℕ) → 0 < t → wakes-left m t ≡ left (m .clock) t q
-  left-is-queues t p = rw h (sym (left-same m (tests-sound m .sure e) t p))
+  pub left-is-queues : (t : ℕ) → wakes-left m t ≡ left (m .clock) t q
+  left-is-queues t = rw h (sym (left-same m (tests-sound m .sure e) t))
 
 pub none-stands : StandsFor none (M.fresh .delay)
 unfolding queued
 none-stands = refl
 
--- A delay whose time is not above the clock queues nobody, whatever the queue holds.
+-- From the fresh machine the queue beside it is the chip's, behind every run.
+-- Rules out: two queues, one beside a machine and one in the second model. Leaves: nothing.
+pub beside-fresh : (cs : List Command) → follows M.fresh cs none ≡ run fresh cs .queue
+beside-fresh cs = ap (follows M.fresh cs) none-stands ∙ follows-is cs M.fresh fresh-sound ∙ sym (queue-stands cs)
+
+-- A delay whose time is not above the clock queues nobody, whatever machine and queue hold.
 -- Rules out: the fault that document 01 names in document 000: a past delay in the queue, ahead of tasks that are due. Leaves: the delays above the clock.
-pub past-delay-queues-nobody : (now n t : ℕ) (q : Queue) → n ≤ now → delayed now n t q ≡ q
-past-delay-queues-nobody now n t q h = delayed-not now n t q h
+pub past-delay-queues-nobody : (m : Machine) (a b n : ℕ) (q : Queue) → n ≤ m .clock → beside m (cmd 4 a b n) q ≡ q
+unfolding beside follow
+past-delay-queues-nobody m a b n q h = go (accepts m (cmd 4 a b n))
+  where
+    go : (x : Bool) → cond x (delayed (m .clock) n (runner m) q) q ≡ q
+    go true = delayed-not (m .clock) n (runner m) q h
+    go false = refl

@@ -10,7 +10,7 @@ use Rattle.rules.specs.Table.{carry, leave, release}
 use Rattle.rules.specs.Refusals.{refusal}
 use Rattle.rules.specs.Run.{released}
 use Rattle.rules.specs.Run as R
-use Rattle.rules.proofs.Script.{create, start, delay, wake, advance, otherwise}
+use Rattle.rules.proofs.Script.{create, object, start, delay, wake, advance, open′, closef, otherwise}
 use Rattle.queue_chip.specs.declared.Queue.{Queue}
 use Rattle.queue_chip.specs.Queue.{none, older, aged, preempts, insert, soonest, searched, moved-up, taken, woken, how-many, ahead-of, left}
 use Rattle.queue_chip.specs.Queue.{above, delayed, follow, beside}
@@ -41,10 +41,11 @@ made = run fresh (create 21 9 ∷ create 22 8 ∷ create 23 7 ∷ create 24 6 �
 -- 21 and 23 sleep until 50, 22 and 24 until 40; 22, the sooner, pushes 21 out of the registers, and 24, of the same time, does not push 22. 25's delay until
 -- 10 is not above the clock, which is 10. 22 wakes, and the search finds 24; 22 sleeps again, until 50, as the youngest; 24 wakes, and of the three that are
 -- left, all until 50, the search finds the oldest.
+abbrev until-40 : List Command
+until-40 = delay 50 ∷ delay 40 ∷ delay 50 ∷ delay 40 ∷ delay 10 ∷ wake ∷ advance 30 ∷ []
+
 abbrev delays : List Command
-delays =
-    delay 50 ∷ delay 40 ∷ delay 50 ∷ delay 40 ∷ delay 10 ∷ wake ∷ advance 30 ∷
-    wake ∷ delay 50 ∷ wake ∷ wake ∷ []
+delays = until-40 ++ (wake ∷ delay 50 ∷ wake ∷ wake ∷ [])
 
 pub run-shows : all-give made delays ≡
     line 0 22 0 (21 ∷ 50 ∷ 1 ∷ []) ∷
@@ -87,6 +88,41 @@ unfolding insert delayed above preempts older aged soonest searched moved-up tak
     R.next released refusal carry leave release
 lefts-show = refl
 
+-- Who is not due has none left. At 40 the registers and one of the table are due, two of the table are not; then three until 50, in registers and table.
+-- And nobody is delayed: idle has none left.
+pub not-due-shows : (lefts (run made until-40) (21 ∷ 22 ∷ 23 ∷ 24 ∷ []) ++ lefts (run made delays) (21 ∷ 22 ∷ 23 ∷ []) ++ ((left 90 0 none ∷ []) ∷ [])) ≡
+    (21 ∷ 0 ∷ 0 ∷ []) ∷ (22 ∷ 0 ∷ 1 ∷ []) ∷ (23 ∷ 0 ∷ 0 ∷ []) ∷ (24 ∷ 0 ∷ 2 ∷ []) ∷
+    (21 ∷ 0 ∷ 0 ∷ []) ∷ (22 ∷ 0 ∷ 0 ∷ []) ∷ (23 ∷ 0 ∷ 0 ∷ []) ∷
+    (0 ∷ []) ∷ []
+unfolding insert delayed above preempts older aged soonest searched moved-up taken Q.wake follow beside next question how-many ahead-of left run
+    R.next released refusal carry leave release
+not-due-shows = refl
+
+-- ## Registers that are pushed out with an age of 2, and delays that are refused
+-- 21 and 22 sleep until 60: 21 has the age 2 when 23, until 45, pushes it out, and keeps it. 24's delay until 30 is refused, for it holds an object (8); and so
+-- is idle's (7): neither is queued. At 60 all four leave, by time and then by age.
+abbrev with-object : Chip
+with-object = run fresh (create 21 9 ∷ create 22 8 ∷ create 23 7 ∷ create 24 6 ∷ object 3 12 ∷ start ∷ advance 10 ∷ [])
+
+pub pushes-show : all-give with-object
+    (delay 60 ∷ delay 60 ∷ delay 45 ∷ open′ 3 ∷ delay 30 ∷ closef 3 ∷ delay 45 ∷ delay 30 ∷ advance 50 ∷ wake ∷ wake ∷ wake ∷ wake ∷ []) ≡
+    line 0 22 0 (21 ∷ 60 ∷ 1 ∷ []) ∷
+    line 0 23 0 (21 ∷ 60 ∷ 2 ∷ 22 ∷ 60 ∷ 1 ∷ []) ∷
+    line 0 24 0 (23 ∷ 45 ∷ 1 ∷ 21 ∷ 60 ∷ 2 ∷ 22 ∷ 60 ∷ 1 ∷ []) ∷
+    line 0 24 0 (23 ∷ 45 ∷ 1 ∷ 21 ∷ 60 ∷ 2 ∷ 22 ∷ 60 ∷ 1 ∷ []) ∷
+    line 8 24 0 (23 ∷ 45 ∷ 1 ∷ 21 ∷ 60 ∷ 2 ∷ 22 ∷ 60 ∷ 1 ∷ []) ∷
+    line 0 24 0 (23 ∷ 45 ∷ 1 ∷ 21 ∷ 60 ∷ 2 ∷ 22 ∷ 60 ∷ 1 ∷ []) ∷
+    line 0 0 0 (23 ∷ 45 ∷ 2 ∷ 21 ∷ 60 ∷ 2 ∷ 22 ∷ 60 ∷ 1 ∷ 24 ∷ 45 ∷ 1 ∷ []) ∷
+    line 7 0 0 (23 ∷ 45 ∷ 2 ∷ 21 ∷ 60 ∷ 2 ∷ 22 ∷ 60 ∷ 1 ∷ 24 ∷ 45 ∷ 1 ∷ []) ∷
+    line 0 0 0 (23 ∷ 45 ∷ 2 ∷ 21 ∷ 60 ∷ 2 ∷ 22 ∷ 60 ∷ 1 ∷ 24 ∷ 45 ∷ 1 ∷ []) ∷
+    line 0 23 23 (24 ∷ 45 ∷ 1 ∷ 21 ∷ 60 ∷ 2 ∷ 22 ∷ 60 ∷ 1 ∷ []) ∷
+    line 0 23 24 (21 ∷ 60 ∷ 2 ∷ 22 ∷ 60 ∷ 1 ∷ []) ∷
+    line 0 21 21 (22 ∷ 60 ∷ 1 ∷ []) ∷
+    line 0 21 22 (0 ∷ 0 ∷ 0 ∷ []) ∷ []
+unfolding insert delayed above preempts older aged soonest searched moved-up taken Q.wake follow beside next answer run
+    R.next R.answer released refusal carry leave release
+pushes-show = refl
+
 -- ## The search of a table that is given by its cells: task, time, age
 abbrev table : List (ℕ × ℕ × ℕ) → List ℕ × List ℕ
 table [] = (replicate task-count 0, replicate task-count 0)
@@ -95,7 +131,8 @@ table (c ∷ l) = let r = table l in (set (r .0) (c .0) (c .1), set (r .1) (c .0
 abbrev finds : List (ℕ × ℕ × ℕ) → ℕ → List (ℕ × ℕ × ℕ) × List ℕ
 finds l t = (l, t ∷ [])
 
--- nobody; the first and the last task; the least time before, between and behind others; the oldest of three; a sooner time though it is younger
+-- nobody; the first and the last task; the least time before, between and behind others; the oldest of three; a sooner time though it is younger, behind
+-- the others and before one
 pub search-shows :
     otherwise (λ l. (let t = table l in searched (t .0) (t .1) ∷ []))
     (finds [] 0 ∷ finds ((1, 70, 1) ∷ []) 1 ∷ finds ((31, 70, 1) ∷ []) 31 ∷
@@ -103,7 +140,8 @@ pub search-shows :
     finds ((3, 62, 1) ∷ (17, 61, 1) ∷ (31, 60, 1) ∷ []) 31 ∷
     finds ((5, 44, 1) ∷ (7, 44, 2) ∷ (9, 44, 3) ∷ []) 9 ∷ finds ((5, 44, 2) ∷ (7, 44, 3) ∷ (9, 44, 1) ∷ []) 7 ∷
     finds ((5, 44, 3) ∷ (7, 44, 1) ∷ (9, 44, 2) ∷ []) 5 ∷
-    finds ((8, 90, 2) ∷ (12, 90, 1) ∷ (30, 89, 1) ∷ []) 30 ∷ finds ((8, 0, 1) ∷ (12, 1, 1) ∷ []) 8 ∷ [])
+    finds ((8, 90, 2) ∷ (12, 90, 1) ∷ (30, 89, 1) ∷ []) 30 ∷ finds ((8, 89, 1) ∷ (12, 90, 2) ∷ []) 8 ∷
+    finds ((8, 0, 1) ∷ (12, 1, 1) ∷ []) 8 ∷ [])
     ≡ []
 unfolding soonest searched
 search-shows = refl

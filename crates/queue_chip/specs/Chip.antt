@@ -26,7 +26,7 @@ abbrev pub fresh : Chip
 fresh = chip M.fresh none
 
 -- What the rules are shown of the queue: the registers, as a delay line of at most one entry. They look at no more of a
--- line than its first entry.
+-- line than its first entry, but for the line that they leave, which is dropped here.
 abbrev pub face : Chip → Machine
 face k = with-delay (k .machine) (cond (eqb (k .queue .task) 0) [] ((k .queue .time, k .queue .task) ∷ []))
 

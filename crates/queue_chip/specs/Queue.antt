@@ -69,7 +69,7 @@ insert n t q =
 -- A cell with the time n and the age a stands before one with the time m and the age b: it is in use, and the other is
 -- not, or is later, or is of the same time and younger.
 abbrev pub sooner : ℕ → ℕ → ℕ → ℕ → Bool
-sooner n a m b = in-use a && (not (in-use b) || ltb n m || eqb n m && ltb b a)
+sooner n a m b = in-use a && (eqb b 0 || ltb n m || eqb n m && ltb b a)
 
 abbrev pub before : List ℕ → List ℕ → ℕ → ℕ → Bool
 before times ages t u = sooner (at times t) (at ages t) (at times u) (at ages u)
@@ -101,7 +101,7 @@ unfoldable pub wake : ℕ → Queue → Queue
 wake now q = cond (due now q) (taken q) q
 
 -- "WAKES LEFT" of task t. Ahead of one in the table are the registers' task and each of the table that stands before
--- it.
+-- it. (Idle has none left. Empty registers read as idle's, and are not due.)
 unfoldable pub how-many : ℕ → (ℕ → Bool) → ℕ
 how-many zero f = 0
 how-many (suc k) f = one-if (f k) + how-many k f
@@ -114,7 +114,7 @@ abbrev pub cell-due : ℕ → ℕ → Queue → Bool
 cell-due now t q = in-use (at (q .ages) t) && leb (at (q .times) t) now
 
 unfoldable pub left : ℕ → ℕ → Queue → ℕ
-left now t q = cond (eqb (q .task) t) (one-if (leb (q .time) now)) (cond (cell-due now t q) (suc (ahead-of t q)) 0)
+left now t q = cond (eqb (q .task) t) (one-if (due now q)) (cond (cell-due now t q) (suc (ahead-of t q)) 0)
 
 -- A DELAY of the runner: where its time n is above the clock the runner is inserted. Otherwise there is no delay, and
 -- nothing is queued.
