@@ -37,8 +37,8 @@ struct Beside {
     at: Course,
 }
 
-// The state behind a draw with its step.
-struct Behind {
+// The state behind a draw with its step, and what was drawn and answered.
+struct Moved {
     next: Kernel,
     x: Carried,
 }
@@ -181,7 +181,7 @@ fn begun(seed: u32) -> Beside {
 
 // ---- a draw with its step, and the queue beside it
 
-fn carried(k: Kernel, seed: u32, p: Profile) -> Behind {
+fn carried(k: Kernel, seed: u32, p: Profile) -> Moved {
     let mut base = k.base;
     let mut ready = k.ready;
     let mut delayed = k.delayed;
@@ -218,7 +218,7 @@ fn carried(k: Kernel, seed: u32, p: Profile) -> Behind {
         clock,
         started,
     };
-    Behind { next, x }
+    Moved { next, x }
 }
 
 // The code of the draw goes into the sum as well.
