@@ -84,10 +84,7 @@ fn compared(r: Course, by_queue: u8, by_line: u8) -> Course {
 
 fn registers(r: Course, q: Queue) -> Course {
     let mut next = r;
-    next.sum = mixed(
-        mixed(mixed(r.sum, q.task as u64), q.time),
-        q.age as u64,
-    );
+    next.sum = mixed(mixed(mixed(r.sum, q.task as u64), q.time), q.age as u64);
     next.oldest = numbers::choose(r.oldest < q.age, q.age, r.oldest);
     next
 }
@@ -277,11 +274,7 @@ fn questioned(n: u64, b: Beside) -> Beside {
     let q = b.q;
     let t = TaskID((n % 31 + 1) as u8);
     let by_line = k.wakes_left(t);
-    let mut at = compared(
-        b.at,
-        queue::wakes_left(k.clock, t, q),
-        by_line.left,
-    );
+    let mut at = compared(b.at, queue::wakes_left(k.clock, t, q), by_line.left);
     at.sum = mixed(at.sum, by_line.left as u64);
     Beside { k, q, at }
 }
@@ -347,10 +340,7 @@ fn main() {
         span: 9,
         weights: [60, 50, 12, 6, 20, 20, 1, 20],
     };
-    io::write_all(
-        OUT,
-        b"draws running clock seed task time age delayed sum\n",
-    );
+    io::write_all(OUT, b"draws running clock seed task time age delayed sum\n");
     run(1, filling);
     run(4294967295, swaying);
 }
