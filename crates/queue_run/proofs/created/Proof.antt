@@ -1,6 +1,5 @@
 -- `queue_run::created` is safe and ends: the task stays below 32. Assumes nothing.
 use Prim.Native.Nat.{_-_, _≤_}
-use native.Mathlib.Omega.{arith}
 use borrow.Author.Needs.{needs}
 use Rattle.queue_run.proofs.created.Statement.{statement}
 use Rattle.queue_run.proofs.created.Tie as tie

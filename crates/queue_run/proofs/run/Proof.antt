@@ -1,6 +1,5 @@
 -- `queue_run::run` is safe and ends: the draws stay below 100,000. Assumes nothing.
 use Prim.Native.Nat.{_-_, _≤_}
-use native.Mathlib.Omega.{arith}
 use borrow.Author.Needs.{needs}
 use Rattle.queue_run.proofs.run.Statement.{statement}
 use Rattle.queue_run.proofs.run.Tie as tie
