@@ -123,21 +123,16 @@ fn counted(r: Course, c: Command, now: u64, k: Kernel) -> Course {
 
 // ---- the set-up
 
-fn asked(b: Beside, op: u8, a: u8, t: u8) -> Beside {
-    let c = Command {
-        op,
-        a,
-        b: t,
-        value: 0,
-    };
-    let k = b.k;
-    let q = b.q;
+fn asked(r: Beside, op: u8, a: u8, b: u8) -> Beside {
+    let c = Command { op, a, b, value: 0 };
+    let k = r.k;
+    let q = r.q;
     let s = k.step(c);
     let next = s.next;
     Beside {
         k: next,
         q,
-        at: behind(b.at, c, s.answer),
+        at: behind(r.at, c, s.answer),
     }
 }
 
@@ -246,6 +241,7 @@ fn followed(q: Queue, c: Command, now: u64, runner: u8, a: Answer) -> Queue {
     }
 }
 
+// The clock and the runner are those before the step, for the queue goes by them.
 fn stepped(b: Beside, p: Profile) -> Beside {
     let k = b.k;
     let q = b.q;
