@@ -1,11 +1,12 @@
 --  What text cannot reach: unknown ops, unused operands, a state in which
 --  another task holds the object, one in which the runner, a sleeper or a
---  waiter has a pending exception, "Wakes left", a clock too near its end for
---  the generator.  Expected values are taken from document 01 and change
---  request 6 by hand.
+--  waiter has a pending exception, "Wakes left", the chip's delay queue, a
+--  clock too near its end for the generator.  Expected values are taken from
+--  document 01, change requests 6 and 7 and document 000 by hand.
 
 with Ada.Command_Line;
 with Byte_IO;   use Byte_IO;
+with Chip_Queue;
 with Decimals;  use Decimals;
 with Generator; use Generator;
 with Machine;   use Machine;
@@ -438,12 +439,76 @@ procedure Unit_Test is
       Check ("2^64-1", Value (Largest), Ticks'Last);
    end Test_Decimals;
 
+   procedure Check_Registers
+     (Name : String; Q : Chip_Queue.Queue; Pid : Task_Id; Time, Age : Ticks) is
+   begin
+      Check (Name & ", task", Ticks (Q.PidDQ), Ticks (Pid));
+      Check (Name & ", time", Q.T.Time, Time);
+      Check (Name & ", age", Ticks (Chip_Queue.Age (Q)), Age);
+   end Check_Registers;
+
+   procedure Check_Left
+     (Q : Chip_Queue.Queue; Clock : Ticks; Pid : Task_Id; Left : Ticks) is
+   begin
+      Check ("queue: wakes left of" & Pid'Image & " at" & Clock'Image,
+             Ticks (Chip_Queue.Wakes_Left (Q, Clock, Pid)), Left);
+   end Check_Left;
+
+   procedure Check_Wake
+     (Q : in out Chip_Queue.Queue; Clock : Ticks; Pid : Task_Id)
+   is
+      Released : Task_Id;
+   begin
+      Chip_Queue.Wake (Q, Clock, Released);
+      Check ("queue: released at" & Clock'Image,
+             Ticks (Released), Ticks (Pid));
+   end Check_Wake;
+
+   --  The three cases of a delay (document 000, 6.4); a tie keeps the older in
+   --  the registers; a search among equal times, where the lower task number
+   --  is the younger; a task that comes back behind its equals.
+   procedure Test_Chip_Queue is
+      Q : Chip_Queue.Queue;
+   begin
+      Check_Wake (Q, 100, 0);
+      Check_Registers ("queue: none", Q, 0, 0, 0);
+      Chip_Queue.Delay_Until (Q, 5, 20);
+      Check_Registers ("queue: the first", Q, 5, 20, 1);
+      Chip_Queue.Delay_Until (Q, 9, 30);
+      Check_Registers ("queue: a later", Q, 5, 20, 1);
+      Chip_Queue.Delay_Until (Q, 2, 20);
+      Check_Registers ("queue: an equal", Q, 5, 20, 2);
+      Chip_Queue.Delay_Until (Q, 31, 10);
+      Check_Registers ("queue: a sooner", Q, 31, 10, 1);
+      Check_Wake (Q, 9, 0);
+      Check_Left (Q, 9, 31, 0);
+      Check_Left (Q, 20, 31, 1);
+      Check_Left (Q, 20, 5, 2);
+      Check_Left (Q, 20, 2, 3);
+      Check_Left (Q, 20, 9, 0);
+      Check_Left (Q, 20, 1, 0);
+      Check_Wake (Q, 20, 31);
+      Check_Registers ("queue: the older of two", Q, 5, 20, 2);
+      Chip_Queue.Delay_Until (Q, 31, 30);
+      Check_Left (Q, 30, 9, 3);
+      Check_Left (Q, 30, 31, 4);
+      Check_Wake (Q, 30, 5);
+      Check_Registers ("queue: the younger", Q, 2, 20, 1);
+      Check_Wake (Q, 30, 2);
+      Check_Registers ("queue: it came first", Q, 9, 30, 2);
+      Check_Wake (Q, 30, 9);
+      Check_Wake (Q, 30, 31);
+      Check_Registers ("queue: none again", Q, 0, 0, 0);
+      Check ("queue: len", Ticks (Q.Len), 0);
+   end Test_Chip_Queue;
+
 begin
    Test_Range;
    Test_Held;
    Test_Pending;
    Test_Older;
    Test_Wakes_Left;
+   Test_Chip_Queue;
    Test_Draws;
    Test_Draw_Refusals;
    Test_Choices;
