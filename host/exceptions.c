@@ -1,6 +1,7 @@
 /* Bodies that end in an exception, on an image: each line of standard input is a command in its text, and one line is printed for each answer, walk's columns
  * and behind them 1 where the answer shows the running task's exception. Of command lines it prints what second/bin/exceptions2 prints. It is no reader of
- * text: a word that is none ends it with 2, and operands are taken as they come (`failp 1` is stepped as `failp 1 0`, where walk answers 14). */
+ * text: a word that is none ends it with 2, and operands are taken as they come (`failp 1` is stepped as `failp 1 0`, where walk answers 14). A read or a
+ * write that fails is told, and ends it with 3. */
 #include <inttypes.h>
 #include <stdio.h>
 #include <stdlib.h>
@@ -57,6 +58,14 @@ int main(void)
         uint32_t answer = answer_to(op, line);
         printf("%u %" PRIu64 " %" PRIu32 " %" PRIu32 " %" PRIu32 " %" PRIu64 " %d\n", n, op, RVN_CODE(answer), RVN_RUNNING(answer),
                RVN_RELEASED(answer), clock_now(), (answer & RVN_EXCEPTION) != 0);
+    }
+    if (ferror(stdin)) {
+        fputs("exceptions: standard input could not be read to its end; what is printed ends where the reading failed\n", stderr);
+        return 3;
+    }
+    if (fflush(stdout) != 0 || ferror(stdout)) {
+        fputs("exceptions: standard output could not be written; what is printed is not whole\n", stderr);
+        return 3;
     }
     return 0;
 }
