@@ -13,7 +13,7 @@ use Rattle.queue_chip.specs.declared.Queue.{Queue}
 use Rattle.queue_chip.specs.Queue.{queue, none, beside}
 use Rattle.queue_chip.specs.Chip.{Chip, chip, with-delay}
 
--- A delay line of a sound machine: tasks 1..31, each once, times rising. And that a task is not in a line.
+-- A delay line of a sound machine: tasks 1..31, each once, times not falling. And that a task is not in a line.
 abbrev pub Apart : ℕ → List (ℕ × ℕ) → Type 0
 Apart t l = All (λ f. f .1 ≢ t) l
 

@@ -1,5 +1,5 @@
 // The chip's delay queue beside the kernel's delay line: 100,000 draws with their steps from each of two seeds, one of
-// them above 2^31, with all 31 tasks. In the first run the queue is full much of the time, and many sleep until the
+// them above 2^31, with all 31 tasks. In the first run one command in nine leaves all delayed, and many sleep until the
 // same time; in the second it grows and falls. Each line tells how far a run is, the running task, the clock and the
 // seed, the queue's registers, how many are delayed, and a number that changes with any command, any answer and any
 // registers on the way. The last line of a run counts.
