@@ -15,7 +15,7 @@ procedure Queue2 is
    Ask_Length : constant := 16;  --  draws from one "Wakes left" to the next
 
    --  A runner delays in most cases, and until one of three times: the queue is
-   --  full much of the time, and many tasks wait for the same time.
+   --  full behind one command in nine, and many tasks wait for the same time.
    Filling : constant Profile :=
      (Span    => 3,
       Weights => (100, 20, 5, 4, 30, 30, 1, 30));
@@ -98,8 +98,8 @@ procedure Queue2 is
       end if;
       Mix (R, Ticks (R.Chip.PidDQ));
       Mix (R, R.Chip.T.Time);
-      Mix (R, Ticks (Age (R.Chip)));
-      R.Oldest := Natural'Max (R.Oldest, Age (R.Chip));
+      Mix (R, Ticks (Age (R.Chip, R.Chip.T)));
+      R.Oldest := Natural'Max (R.Oldest, Age (R.Chip, R.Chip.T));
       case R.Chip.Len is
          when 0      => R.Empty := R.Empty + 1;
          when 31     => R.Full := R.Full + 1;
@@ -163,7 +163,7 @@ procedure Queue2 is
                     Ticks (R.Seed),
                     Ticks (R.Chip.PidDQ),
                     R.Chip.T.Time,
-                    Ticks (Age (R.Chip)),
+                    Ticks (Age (R.Chip, R.Chip.T)),
                     Ticks (R.Chip.Len),
                     Ticks (R.Total)));
    end Report;
