@@ -9,7 +9,7 @@
 #include <stdlib.h>
 #include <time.h>
 
-enum { STREAMS = 64, PAIRS = 50, MOST = STREAMS * (31 + 2 * PAIRS), REPEATS = 4 };
+enum { STREAMS = 64, PAIRS = 50, MOST = STREAMS * (31 + 2 * PAIRS) };
 enum { EMPTY, IN, IN_AND_OUT, STEADY, KINDS };
 enum { CHIP, LINE, C_CHIP, C_LINE, WAYS };
 
@@ -50,8 +50,6 @@ static __attribute__((noinline)) uint64_t c_bench_line(const uint8_t *tasks, siz
     }
     return sum;
 }
-
-static runner *const ways[WAYS] = { queue_bench_chip, queue_bench_line, c_bench_chip, c_bench_line };
 
 /* The streams of one kind, one behind another: stream i is from[i] to from[i + 1]. */
 typedef struct {
@@ -115,16 +113,15 @@ static double now(void)
     return (double)t.tv_sec * 1e9 + (double)t.tv_nsec;
 }
 
-/* ns for a stream */
+/* ns for a stream: all of a pile in one short go, which on a busy machine has the best chance of being left alone */
 static double timed(const pile *p, runner *run, uint64_t *sum)
 {
     double began = now();
-    for (int r = 0; r < REPEATS; r++)
-        for (int i = 0; i < STREAMS; i++) {
-            size_t at = p->from[i], n = p->from[i + 1] - at;
-            *sum = run(p->tasks + at, n, p->values + at, n, *sum);
-        }
-    return (now() - began) / (REPEATS * STREAMS);
+    for (int i = 0; i < STREAMS; i++) {
+        size_t at = p->from[i], n = p->from[i + 1] - at;
+        *sum = run(p->tasks + at, n, p->values + at, n, *sum);
+    }
+    return (now() - began) / STREAMS;
 }
 
 static void tell(unsigned n, const char *what, const double *more, const double *less, double count)
@@ -166,7 +163,7 @@ static void bench(unsigned n, unsigned rounds)
 
 int main(int argc, char **argv)
 {
-    unsigned rounds = argc > 1 ? (unsigned)strtoul(argv[1], 0, 10) : 200;
+    unsigned rounds = argc > 1 ? (unsigned)strtoul(argv[1], 0, 10) : 1000;
     printf("ns; least of %u rounds\n", rounds);
     bench(2, rounds);
     bench(10, rounds);

@@ -4,7 +4,7 @@
 --     show2 [N]
 --
 --  With a number N only line N is printed, and the lines behind it are not
---  read.  Status 2 where N is no number from 1 on, or there are fewer lines.
+--  read.  Status 2 where N is no such number, or there are fewer lines.
 
 with Ada.Command_Line; use Ada.Command_Line;
 with Byte_IO;          use Byte_IO;
@@ -16,17 +16,20 @@ with State_Text;
 
 procedure Show2 is
 
+   --  "N is 1 to 2^64-2"
+   Last_Asked : constant Ticks := 2 ** 64 - 2;
+
    --  The line to be printed; 0 for each.
    function Asked return Ticks is
    begin
       if Argument_Count = 0 then
          return 0;
       elsif Argument_Count > 1
-        or else not Is_Decimal (Argument (1), Ticks'Last)
+        or else not Is_Decimal (Argument (1), Last_Asked)
         or else Argument (1) = "0"
       then
-         Fail ("usage: show2 [N], N being the number of a line, from 1 on,"
-               & " without leading zeros", Status => 2);
+         Fail ("usage: show2 [N], N being the number of a line, from 1 to "
+               & Image (Last_Asked) & ", without leading zeros", Status => 2);
       end if;
       return Value (Argument (1));
    end Asked;

@@ -30,7 +30,8 @@ module _ (tasks values : List ℕ) (sum : ℕ) where
   unfolding by-chip
   chip-end n i total lo hi e f = let z : i ≡ lesser (length tasks) (length values) = omega (arith, e) in f ∙ ap (λ (x : ℕ). chipOf tasks values sum x .total) z
 
-  pub line-turn : (i j : ℕ) (d u d2 u2 : List ℕ) (total time more : ℕ) → j ≡ suc i → d ≡ lineOf tasks values sum i .delayed → u ≡ lineOf tasks values sum i .until
+  pub line-turn : (i j : ℕ) (d u d2 u2 : List ℕ) (total time more : ℕ) → j ≡ suc i
+      → d ≡ lineOf tasks values sum i .delayed → u ≡ lineOf tasks values sum i .until
       → total ≡ lineOf tasks values sum i .total → d2 ≡ lineTurn d u (at tasks i) (at values i) → u2 ≡ timeTurn d u (at tasks i) (at values i)
       → time ≡ time-in u2 (at d2 0) → more ≡ mixedOf total (at d2 0) time
       → (d2 ≡ lineOf tasks values sum j .delayed) × (u2 ≡ lineOf tasks values sum j .until) × (more ≡ lineOf tasks values sum j .total)

@@ -56,8 +56,8 @@ loop-again : tie.Need-loop-again Inv-loop μ-loop
 loop-again c =
     let l = c .before .before .before .before .before .before .before .before .before .loop in
     let t = c .before .before .before .line-turn in
-    let w = line-turn _ _ _ (l .i) (l .i + 1) (l .delayed) (l .until) _ _ (l .total) _ _ (let z : l .i + 1 ≡ suc (l .i) = omega arith in z) (l .inv .4) (l .inv .5)
-    (l .inv .6) (t .ensures .0) (t .ensures .1) (c .before .time-of .ensures) (c .mixed .ensures) in
+    let w = line-turn _ _ _ (l .i) (l .i + 1) (l .delayed) (l .until) _ _ (l .total) _ _ (let z : l .i + 1 ≡ suc (l .i) = omega arith in z)
+    (l .inv .4) (l .inv .5) (l .inv .6) (t .ensures .0) (t .ensures .1) (c .before .time-of .ensures) (c .mixed .ensures) in
     (omega arith, l .inv .1, l .inv .2, l .inv .3, w .0, w .1, w .2)
 
 returns : tie.Need-returns Inv-loop μ-loop
