@@ -12,11 +12,11 @@ use Rattle.tape_form.specs.declared.Read.the-variants.{Found, End, Refused}
 use Rattle.tape_form.specs.Read.{judged as read}
 use Rattle.record_kept.specs.Kept.{kept-of}
 use Rattle.judge_verdict.specs.Verdict.{command-of}
-use Rattle.judge_record.specs.declared.Stage.{Stage}
-use Rattle.judge_record.specs.declared.Stage.the-variants.{Going, Over}
-use Rattle.judge_record.specs.declared.Head.{Head}
-use Rattle.judge_record.specs.Behind.{refused, headed, compared}
-use Rattle.judge_onward.specs.declared.Run.{Run}
+use Rattle.judge_verdict.specs.declared.Stage.{Stage}
+use Rattle.judge_verdict.specs.declared.Stage.the-variants.{Going, Over}
+use Rattle.judge_verdict.specs.declared.Head.{Head}
+use Rattle.judge_verdict.specs.Behind.{refused, headed, compared}
+use Rattle.judge_pieces.specs.declared.Run.{Run}
 
 -- A run is a machine, and where a judge stands beside it.
 abbrev pub run-of : Kernel → Head → Run

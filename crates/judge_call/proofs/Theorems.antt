@@ -5,8 +5,9 @@ use Prim.Native.Nat.{ℕ, _<_}
 use native.Mathlib.Omega.{arith}
 use mathlib.Core.Path.{_≡_, refl, sym, _∙_}
 use mathlib.Core.List.{List}
-use borrow.Author.Tests.{eq-eqb}
+use borrow.Author.Tests.{eq-eqb, ne-eqb}
 use lib.ListN.{length, getD}
+use Rattle.record_kept.specs.Kept.{packed}
 use Rattle.judge_verdict.specs.declared.Difference.{Difference}
 use Rattle.judge_verdict.specs.declared.Verdict.{Verdict}
 use Rattle.judge_verdict.specs.declared.Verdict.the-variants.{Agrees, Differs, Refused}
@@ -14,7 +15,7 @@ use Rattle.judge_verdict.specs.Verdict.{number-of, verdict-of}
 use Rattle.judge_verdict.proofs.Words.{AllAgree, FirstDiffers, Says}
 use Rattle.judge_verdict.proofs.Theorems.{says-judged, judged-says}
 use Rattle.judge_verdict.proofs.Numbers.{stops-not}
-use Rattle.judge_c.specs.Call.{reply-of, reply-to, answer, numbers}
+use Rattle.judge_call.specs.Call.{reply-of, reply-to, answer, numbers}
 
 module _ (tape lent : List ℕ) (four : length lent ≡ 4) where
   told-code : answer tape lent ≡ reply-to (verdict-of tape) .code
@@ -28,6 +29,16 @@ module _ (tape lent : List ℕ) (four : length lent ≡ 4) where
   -- ## Whatever is said so of a tape is what the call tells: the three cases of `reply-of`, with the seed and the record
   pub tells : (seed : ℕ) (v : Verdict) → Says tape seed v → (answer tape lent ≡ reply-of seed v .code) × (numbers tape lent ≡ reply-of seed v .numbers)
   tells seed v s = let e = says-judged tape seed v s in (rw (told-code, e), rw (told-numbers, e))
+
+-- ## Where not four numbers are lent, the call answers 1 and leaves them
+pub not-four : (tape lent : List ℕ) → (length lent ≡ 4 → ⊥) → (answer tape lent ≡ 1) × (numbers tape lent ≡ lent)
+unfolding answer numbers
+not-four tape lent n = rw (ne-eqb (length lent) 4 n) (refl, refl)
+
+-- ## Of a tape that differs the third number is the tape's own answer, the fourth the rules'
+pub answers-in-order : (seed : ℕ) (d : Difference) → let l = reply-of seed (Differs d) .numbers in
+    (getD l 2 0 ≡ packed (d .tape)) × (getD l 3 0 ≡ packed (d .rules))
+answers-in-order seed d = (refl, refl)
 
 -- ## The call's answer is the verdict's number
 pub told-number : (seed : ℕ) (v : Verdict) → reply-of seed v .code ≡ number-of v

@@ -10,12 +10,11 @@ use Rattle.judge_verdict.specs.declared.Verdict.{Verdict}
 use Rattle.judge_verdict.specs.declared.Verdict.the-variants.{Agrees, Differs, Refused}
 use Rattle.judge_verdict.specs.declared.Judgement.{Judgement}
 use Rattle.judge_verdict.specs.Verdict.{verdict-of}
-use Rattle.judge_c.specs.declared.Reply.{Reply}
+use Rattle.judge_call.specs.declared.Reply.{Reply}
 
 -- The call's answer: 0 where the tape agrees, 255 where it differs, 15 or 17 where it is refused. The four numbers:
 -- the seed that is shown; the count of command records where it agrees, else the number of the record; what is kept of
--- the
--- tape's answer and of the rules', each in one number, where it differs, else 0 and 0.
+-- the tape's answer and of the rules', each in one number, where it differs, else 0 and 0.
 abbrev pub reply-of : ℕ → Verdict → Reply
 reply-of seed (Agrees records) = record { code = 0; numbers = seed ∷ records ∷ 0 ∷ 0 ∷ [] }
 reply-of seed (Differs d) =

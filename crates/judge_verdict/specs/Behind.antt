@@ -5,12 +5,12 @@ use lib.Dec.{eqb, ltb}
 use Rattle.record.specs.declared.Record.{Record}
 use Rattle.record_kept.specs.declared.Kept.{Kept}
 use Rattle.record_kept.specs.Kept.{kept-on, alike}
 use Rattle.judge_verdict.specs.declared.Verdict.{Verdict}
 use Rattle.judge_verdict.specs.declared.Verdict.the-variants.{Agrees, Refused as Malformed}
 use Rattle.judge_verdict.specs.Verdict.{difference, seed-shown}
-use Rattle.judge_record.specs.declared.Stage.{Stage}
-use Rattle.judge_record.specs.declared.Stage.the-variants.{Going, Over}
-use Rattle.judge_record.specs.declared.Head.{Head}
+use Rattle.judge_verdict.specs.declared.Stage.{Stage}
+use Rattle.judge_verdict.specs.declared.Stage.the-variants.{Going, Over}
+use Rattle.judge_verdict.specs.declared.Head.{Head}
 
 -- The place behind a record. (The last places of 64 bits are followed by themselves: no tape is so long.)
 abbrev pub beyond : ℕ → ℕ
