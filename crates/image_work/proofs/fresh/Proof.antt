@@ -1,12 +1,12 @@
--- `rvn_fresh` meets its contract: each exit by the length. The tables that are laid out are those of the fresh machine. Assumes nothing.
+-- `fresh` meets its contract: each exit by the length. The tables that are laid out are those of the fresh machine. Assumes nothing.
 use borrow.Author.Needs.{needs}
 use borrow.Author.Tests.{eq-eqb, ne-eqb}
 use lib.ListN.{length}
 use Rattle.kernel.specs.View as K
 use Rattle.kernel_state.specs.Public.{encode}
 use Rattle.image_calls.specs.Calls.{freshAnswer, freshImage}
-use Rattle.image.proofs.rvn_fresh.Statement.{statement}
-use Rattle.image.proofs.rvn_fresh.Tie as tie
+use Rattle.image_work.proofs.fresh.Statement.{statement}
+use Rattle.image_work.proofs.fresh.Tie as tie
 
 returns : tie.Need-returns
 unfolding freshAnswer freshImage
@@ -27,5 +27,5 @@ returns-2 c =
     let e = eq-eqb (length (test .before .before .args .image .now)) 512 (test .if1 .left) in
     (simp e, laid .lay .ensures)
 
-pub rvn-fresh-spec : {M : Type 1} → statement M
-rvn-fresh-spec = tie.close (tie.spec returns lay-requires same-length returns-2)
+pub fresh-spec : {M : Type 1} → statement M
+fresh-spec = tie.close (tie.spec returns lay-requires same-length returns-2)

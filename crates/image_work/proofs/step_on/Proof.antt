@@ -4,8 +4,8 @@ use borrow.Author.Tests.{not-true, not-false}
 use mathlib.Core.Path.{sym, ap, _∙_}
 use Rattle.kernel.specs.declared.Kernel.{Kernel}
 use Rattle.kernel.specs.Public.{to-rules, stepOf}
-use Rattle.image.proofs.step_on.Statement.{statement}
-use Rattle.image.proofs.step_on.Tie as tie
+use Rattle.image_work.proofs.step_on.Statement.{statement}
+use Rattle.image_work.proofs.step_on.Tie as tie
 
 read-requires : tie.Need-read-requires
 read-requires c κs = search needs

@@ -1,10 +1,10 @@
--- `rvn_step` meets its contract: the step of the command that fits is that of the command itself. Assumes nothing.
+-- `step` meets its contract: the step of the command that fits is that of the command itself. Assumes nothing.
 use borrow.Author.Needs.{needs}
 use mathlib.Core.Path.{_∙_}
 use Rattle.image_calls.specs.Calls.{told}
-use Rattle.image.proofs.Exits.{asked-answer, asked-image}
-use Rattle.image.proofs.rvn_step.Statement.{statement}
-use Rattle.image.proofs.rvn_step.Tie as tie
+use Rattle.image_work.proofs.Exits.{asked-answer, asked-image}
+use Rattle.image_work.proofs.step.Statement.{statement}
+use Rattle.image_work.proofs.step.Tie as tie
 
 command-requires : tie.Need-command-requires
 command-requires c κs = search needs
@@ -25,5 +25,5 @@ returns c =
     let fits = asking .command .ensures in
     (stepping .step-and-keep .ensures .0 ∙ asked-answer s asked fits, stepping .step-and-keep .ensures .1 ∙ asked-image s asked fits)
 
-pub rvn-step-spec : {M : Type 1} → statement M
-rvn-step-spec = tie.close (tie.spec command-requires step-and-keep-requires same-length returns)
+pub step-spec : {M : Type 1} → statement M
+step-spec = tie.close (tie.spec command-requires step-and-keep-requires same-length returns)

@@ -1,9 +1,9 @@
--- `rvn_draw` meets its contract: what is drawn, refused or not, and what is left of it. Assumes nothing.
+-- `draw` meets its contract: what is drawn, refused or not, and what is left of it. Assumes nothing.
 use borrow.Author.Needs.{needs}
 use Rattle.image_calls.proofs.Cut.{asked-draw}
-use Rattle.image.proofs.Exits.{draw-ends}
-use Rattle.image.proofs.rvn_draw.Statement.{statement}
-use Rattle.image.proofs.rvn_draw.Tie as tie
+use Rattle.image_work.proofs.Exits.{draw-ends}
+use Rattle.image_work.proofs.draw.Statement.{statement}
+use Rattle.image_work.proofs.draw.Tie as tie
 
 profile-requires : tie.Need-profile-requires
 profile-requires c κs = search needs
@@ -26,6 +26,6 @@ returns c =
     draw-ends (a .image .now) (a .seed .now) (a .span) (a .weights .now) (a .value .now) drawn
     (c .pack-drawn .ensures) (leaving .leave .ensures .0) (leaving .leave .ensures .1)
 
-pub rvn-draw-spec : {M : Type 1} → statement M
-rvn-draw-spec =
+pub draw-spec : {M : Type 1} → statement M
+draw-spec =
     tie.close (tie.spec profile-requires draw-on-requires leave-requires pack-drawn-requires returns)

@@ -2,9 +2,9 @@
 use borrow.Author.Needs.{needs}
 use mathlib.Core.Path.{_∙_}
 use Rattle.kernel.specs.Public.{to-rules}
-use Rattle.image.proofs.Exits.{step-ends}
-use Rattle.image.proofs.step_and_keep.Statement.{statement}
-use Rattle.image.proofs.step_and_keep.Tie as tie
+use Rattle.image_work.proofs.Exits.{step-ends}
+use Rattle.image_work.proofs.step_and_keep.Statement.{statement}
+use Rattle.image_work.proofs.step_and_keep.Tie as tie
 
 step-on-requires : tie.Need-step-on-requires
 step-on-requires c κs = search needs

@@ -4,9 +4,9 @@ use borrow.Author.Tests.{not-true, not-false}
 use mathlib.Core.Path.{sym, ap, _∙_}
 use Rattle.kernel.specs.declared.Kernel.{Kernel}
 use Rattle.generator.specs.Public.{drawnOf}
-use Rattle.image.proofs.Exits.{none-draw, answered-draw}
-use Rattle.image.proofs.draw_on.Statement.{statement}
-use Rattle.image.proofs.draw_on.Tie as tie
+use Rattle.image_work.proofs.Exits.{none-draw, answered-draw}
+use Rattle.image_work.proofs.draw_on.Statement.{statement}
+use Rattle.image_work.proofs.draw_on.Tie as tie
 
 read-requires : tie.Need-read-requires
 read-requires c κs = search needs

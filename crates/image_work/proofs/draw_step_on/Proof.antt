@@ -4,9 +4,9 @@ use borrow.Author.Tests.{not-true, not-false}
 use mathlib.Core.Path.{sym, ap, _∙_}
 use Rattle.kernel.specs.declared.Kernel.{Kernel}
 use Rattle.generator.specs.Public.{drawnOf, behindDraw, answerTo, carriedOf}
-use Rattle.image.proofs.Exits.{same-carried}
-use Rattle.image.proofs.draw_step_on.Statement.{statement}
-use Rattle.image.proofs.draw_step_on.Tie as tie
+use Rattle.image_work.proofs.Exits.{same-carried}
+use Rattle.image_work.proofs.draw_step_on.Statement.{statement}
+use Rattle.image_work.proofs.draw_step_on.Tie as tie
 
 read-requires : tie.Need-read-requires
 read-requires c κs = search needs

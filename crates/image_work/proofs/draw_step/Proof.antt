@@ -1,8 +1,8 @@
--- `rvn_draw_step` meets its contract: what is drawn and its step, refused or not, and what is left of them. Assumes nothing.
+-- `draw_step` meets its contract: what is drawn and its step, refused or not, and what is left of them. Assumes nothing.
 use borrow.Author.Needs.{needs}
-use Rattle.image.proofs.Exits.{draw-step-ends}
-use Rattle.image.proofs.rvn_draw_step.Statement.{statement}
-use Rattle.image.proofs.rvn_draw_step.Tie as tie
+use Rattle.image_work.proofs.Exits.{draw-step-ends}
+use Rattle.image_work.proofs.draw_step.Statement.{statement}
+use Rattle.image_work.proofs.draw_step.Tie as tie
 
 profile-requires : tie.Need-profile-requires
 profile-requires c κs = search needs
@@ -28,7 +28,7 @@ returns c =
     draw-step-ends (a .image .now) _ (a .seed .now) (a .span) (a .weights .now) (a .value .now) (keeping .before .profile .ensures) (w .0) (w .1)
     (c .pack-both .ensures) (leaving .leave .ensures .0) (leaving .leave .ensures .1)
 
-pub rvn-draw-step-spec : {M : Type 1} → statement M
-rvn-draw-step-spec =
+pub draw-step-spec : {M : Type 1} → statement M
+draw-step-spec =
     tie.close
     (tie.spec profile-requires draw-and-keep-requires leave-requires pack-both-requires same-length returns)

@@ -40,8 +40,8 @@ use Rattle.image_calls.specs.Calls.{valueLeft, drawEvenOn, packedEven, drawEven
 use Rattle.image_calls.proofs.Cut.{fitted-step, asked-draw}
 use Rattle.image_calls.proofs.Theorems.{left-alone, left-alone-evenly}
 use Rattle.image_edge.specs.Edge.{shown, toldIn, imageLeft, seedLeft, packedBoth}
-use Rattle.image.specs.declared.Done.{Done}
-use Rattle.image.specs.Tables.{stepRead, drawnRead, doneRead, imageRead}
+use Rattle.image_work.specs.declared.Done.{Done}
+use Rattle.image_work.specs.Tables.{stepRead, drawnRead, doneRead, imageRead}
 
 -- Bytes of which no state is read are no image; of others the tables decide.
 unread : (s : List ℕ) → readable s ≡ false → isImage s ≡ false

@@ -1,9 +1,9 @@
--- `rvn_draw_even` meets its contract: what is drawn, refused or not, and what is left of it. Assumes nothing.
+-- `draw_even` meets its contract: what is drawn, refused or not, and what is left of it. Assumes nothing.
 use borrow.Author.Needs.{needs}
 use Rattle.image_calls.proofs.Cut.{asked-draw-evenly}
-use Rattle.image.proofs.Exits.{draw-even-ends}
-use Rattle.image.proofs.rvn_draw_even.Statement.{statement}
-use Rattle.image.proofs.rvn_draw_even.Tie as tie
+use Rattle.image_work.proofs.Exits.{draw-even-ends}
+use Rattle.image_work.proofs.draw_even.Statement.{statement}
+use Rattle.image_work.proofs.draw_even.Tie as tie
 
 profile-requires : tie.Need-profile-requires
 profile-requires c κs = search needs
@@ -31,6 +31,6 @@ returns c =
     draw-even-ends (a .image .now) (a .seed .now) (a .span) (a .weights .now) (a .value .now) drawn (baring .bare .ensures)
     (c .pack-even .ensures) (leaving .leave .ensures .0) (leaving .leave .ensures .1)
 
-pub rvn-draw-even-spec : {M : Type 1} → statement M
-rvn-draw-even-spec =
+pub draw-even-spec : {M : Type 1} → statement M
+draw-even-spec =
     tie.close (tie.spec profile-requires draw-even-on-requires bare-requires leave-requires pack-even-requires returns)

@@ -1,4 +1,4 @@
--- `rvn_wakes_left` meets its contract: each exit by its law. Assumes nothing.
+-- `wakes_left` meets its contract: each exit by its law. Assumes nothing.
 use borrow.Author.Needs.{needs}
 use borrow.Author.Tests.{not-true, not-false}
 use mathlib.Core.Path.{sym, ap, _∙_}
@@ -6,9 +6,9 @@ use Rattle.kernel.specs.declared.Left.{Left}
 use Rattle.image_form.specs.Layout.{kernelOf}
 use Rattle.image_calls.specs.Calls.{packedLeft}
 use Rattle.image_calls.proofs.Cut.{asked-left}
-use Rattle.image.proofs.Exits.{none-left, answered-left}
-use Rattle.image.proofs.rvn_wakes_left.Statement.{statement}
-use Rattle.image.proofs.rvn_wakes_left.Tie as tie
+use Rattle.image_work.proofs.Exits.{none-left, answered-left}
+use Rattle.image_work.proofs.wakes_left.Statement.{statement}
+use Rattle.image_work.proofs.wakes_left.Tie as tie
 
 read-requires : tie.Need-read-requires
 read-requires c κs = search needs
@@ -39,7 +39,7 @@ returns-2 c =
     let left = asked-left (kernelOf s) (a .t) (asking .wakes-left .ensures) (rw so at (reading .read .ensures .1)) (asking .before .task .ensures) in
     c .pack-left .ensures ∙ ap (λ (l : Left). packedLeft l) left ∙ answered-left s (a .t) so
 
-pub rvn-wakes-left-spec : {M : Type 1} → statement M
-rvn-wakes-left-spec =
+pub wakes-left-spec : {M : Type 1} → statement M
+wakes-left-spec =
     tie.close
     (tie.spec read-requires returns task-requires wakes-left-requires pack-left-requires returns-2)

@@ -12,7 +12,7 @@ use Rattle.generator.specs.declared.Carried.{Carried}
 use Rattle.generator.specs.Public.{drawnOf, refusedOf, behindDraw, unmoved, answerTo, carriedOf}
 use Rattle.image_form.specs.Layout.{kernelOf, readable}
 use Rattle.image_edge.specs.Edge.{toldIn, imageLeft}
-use Rattle.image.specs.declared.Done.{Done}
+use Rattle.image_work.specs.declared.Done.{Done}
 
 -- The step of what is read. Bytes of which no state can be read leave the tables, and are answered 1, 0, 0.
 abbrev pub stepRead : List ℕ → Kernel → Command → Stepped

@@ -1,9 +1,9 @@
 -- `draw_and_keep` meets its contract: what the draw with its step leaves is kept. Assumes nothing.
 use borrow.Author.Needs.{needs}
 use mathlib.Core.Path.{_∙_}
-use Rattle.image.proofs.Exits.{done-so, kept-so}
-use Rattle.image.proofs.draw_and_keep.Statement.{statement}
-use Rattle.image.proofs.draw_and_keep.Tie as tie
+use Rattle.image_work.proofs.Exits.{done-so, kept-so}
+use Rattle.image_work.proofs.draw_and_keep.Statement.{statement}
+use Rattle.image_work.proofs.draw_and_keep.Tie as tie
 
 draw-step-on-requires : tie.Need-draw-step-on-requires
 draw-step-on-requires c κs = search needs
