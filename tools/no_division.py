@@ -20,7 +20,7 @@ from braces import closing
 ROOT = pathlib.Path(__file__).resolve().parent.parent
 # From a number to its bytes, and whether there is room for them; in judge_record a record's number is found.
 PRINTING = ('decimal', 'decimal_read', 'decimal_print', 'text', 'text_word', 'text_command', 'text_first', 'text_split', 'text_print', 'session', 'session_walk',
-            'session_stage', 'session_draw', 'judge_record', 'judging', 'report', 'salvage_print', 'programs_hint', 'programs_walk', 'programs_draw', 'programs_judge', 'programs_salvage', 'programs', 'walk', 'draw', 'judge')
+            'session_stage', 'session_draw', 'judge_record', 'judging', 'report', 'salvage_print', 'programs_hint', 'programs_walk', 'programs_draw', 'programs_judge', 'programs_salvage', 'programs', 'walk')
 
 
 def code(path):

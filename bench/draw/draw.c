@@ -1,4 +1,4 @@
-/* The program draw in C, for speed: what crates/draw prints, with the step of kernel.h. The state is tested once for each drawn command. */
+/* The program draw in C, for speed: what ./run draw prints, with the step of kernel.h. The state is tested once for each drawn command. */
 #include "../lines.h"
 
 static kernel k;

@@ -1,4 +1,4 @@
-/* The program walk in C, for speed: what crates/walk prints, with the step of kernel.h. */
+/* The program walk in C, for speed: what ./run walk prints, with the step of kernel.h. */
 #include "../lines.h"
 
 static kernel k;

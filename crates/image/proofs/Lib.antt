@@ -1,2 +1,1 @@
-mod Exits
-mod Single
+pub mod Single

@@ -11,24 +11,13 @@ use prog.Wp.{Heap}
 use ghost.Atoms.{Atoms}
 use contract.Monad.{Fun}
 use denote.Ref.{now}
-use mathlib.Core.Path.{_≡_, sym, _∙_}
-use Rattle.one_answer.proofs.Law.{OneAnswer, OneEnd, one, both, each-of-two, each-of-three}
+use Rattle.one_answer.proofs.Law.{OneAnswer, OneEnd, one, both, each-of-two, each-of-three, each-of-four}
 use Rattle.image.proofs.rvn_step
 use Rattle.image.proofs.rvn_fresh
 use Rattle.image.proofs.rvn_wakes_left
 use Rattle.image.proofs.rvn_draw
 use Rattle.image.proofs.rvn_draw_even
 use Rattle.image.proofs.rvn_draw_step
-
--- Four parts that are equal to four others' (as one_answer's laws of two and three).
-same-four : {X Y Z W : Type 0} {r s : X} {m n : Y} {u v : Z} {g h : W} → r ≡ s → m ≡ n → u ≡ v → g ≡ h
-    → _≡_ {A = X × Y × Z × W} (r, m, u, g) (s, n, v, h)
-same-four a b c d = cc
-
-each-of-four : {X Y Z W : Type 0} {x r s : X} {y m n : Y} {z u v : Z} {w g h : W}
-    → (r ≡ x) × (m ≡ y) × (u ≡ z) × (g ≡ w) → (s ≡ x) × (n ≡ y) × (v ≡ z) × (h ≡ w)
-    → _≡_ {A = X × Y × Z × W} (r, m, u, g) (s, n, v, h)
-each-of-four p q = same-four (p .0 ∙ sym (q .0)) (p .1 ∙ sym (q .1)) (p .2 ∙ sym (q .2)) (p .3 ∙ sym (q .3))
 
 module _ {M : Type 1} (𝓤 : URA M) (H : Heap 𝓤) (A : Atoms 𝓤) (mem : Memory → SProp 𝓤) (run : Routine → Fun 𝓤) where
   pub rvn-step-single : OneEnd 𝓤 rvn_step.ended (rvn_step.clauses 𝓤 H A mem run) (ℕ × List ℕ) (λ κs r e. (r, now (e .0)))

@@ -54,7 +54,7 @@ use Rattle.image_form.specs.Layout.{spare, imageOf, part, kernelOf, stateOf, cl
 use Rattle.image_calls.specs.Calls.{told, packed, stepAnswer, stepImage, freshAnswer, freshImage}
 use Rattle.image_calls.specs.Calls.{toldProfile, drawOn, packedDrawn, drawAnswer, drawSeed, drawValue, drawStepAnswer, drawStepImage}
 use Rattle.image_calls.specs.Calls.{drawEvenOn, packedEven, drawEvenAnswer, drawEvenSeed, drawEvenValue}
-use Rattle.image_form.proofs.RoundTrip.{Bytes, image-size, image-back, bytes-are}
+use Rattle.image_form.proofs.RoundTrip.{Bytes, image-back, image-formed, bytes-are}
 use Rattle.kernel_state.proofs.Written.{tables-sound, pending-few, encode-sound, step-on, step-sound, refused-keeps, same-code}
 use Rattle.image_calls.proofs.Whole.{answer-small}
 
@@ -81,12 +81,12 @@ clock-small k e = stands k e .machine .in-time .clock-fits
 -- Rules out: two fields in one place, a field left out or cut, the pending exceptions too, another byte order in reading than in writing, an image of
 -- another length. Leaves: bytes that no state writes, and that are taken all the same (one-image).
 pub reads-back : (k : whole.State) → isSound k ≡ true → (isImage (imageOf k) ≡ true) × (stateOf (imageOf k) ≡ k)
-unfolding isImage formed
+unfolding isImage
 reads-back k e =
     let s = tables-sound k e in
     let z = stands (k .kernel) s .neat .sizes in
-    let w = image-back k z (clock-small (k .kernel) s) (until-small (k .kernel) s) (pending-few k e) in
-    (rw (eq-eqb (length (imageOf k)) 512 (image-size k z), w .1, w .0, e), w .0)
+    let back = image-back k z (clock-small (k .kernel) s) (until-small (k .kernel) s) (pending-few k e) .0 in
+    (rw (image-formed k z (clock-small (k .kernel) s) (until-small (k .kernel) s) (pending-few k e), back, e), back)
 
 -- ## One image for each state: bytes that are an image are the image of the state that they hold
 -- So two images of one state are the same bytes. Rules out: a spare byte that is not looked at, a started byte of 2, a 513th byte.

@@ -9,7 +9,7 @@ use mathlib.Core.List.{List, [], _∷_, _++_, append-assoc}
 use lib.ListN.{length, take, drop, getD, replicate, length-append, length-drop, take-append-drop}
 use lib.Seq.{ext-getD, length-take-le, take-all, take-at, drop-at, drop-drop, drop-cons, take-add, getD-take, getD-drop}
 use lib.Dec.{eqb, leb}
-use borrow.Author.Tests.{eqb-true, eqb-false, leb-true}
+use borrow.Author.Tests.{eq-eqb, eqb-true, eqb-false, leb-true}
 use Rattle.rules.specs.Line.{one-if}
 use Rattle.rules.proofs.Words.{All}
 use Rattle.rules.proofs.Tests.{both-true}
@@ -19,7 +19,7 @@ use Rattle.record.proofs.Digits.{value-back, bytes-back}
 use Rattle.kernel.specs.declared.Kernel.{Kernel}
 use Rattle.kernel.proofs.Round.{Sizes}
 use Rattle.kernel_state.specs.declared.State.{State}
-use Rattle.image_form.specs.Layout.{bytesOf, numbersOf, flags, exceptions, spare, imageOf, part, kernelOf, pendingOf, stateOf, clean}
+use Rattle.image_form.specs.Layout.{bytesOf, numbersOf, flags, exceptions, spare, imageOf, part, kernelOf, pendingOf, stateOf, clean, formed}
 use Rattle.image_form.proofs.Parts.{part-size}
 use Rattle.image_form.proofs.Numbers.{bytes-size}
 
@@ -131,6 +131,11 @@ module _ (st : State) (z : Sizes (st .kernel)) where
       same-four : {a b c d a′ b′ c′ d′ : ℕ} → a ≡ a′ → b ≡ b′ → c ≡ c′ → d ≡ d′
           → a + 256 * b + 65536 * c + 16777216 * d ≡ a′ + 256 * b′ + 65536 * c′ + 16777216 * d′
       same-four p q r t = cc
+
+  -- so it is as long as an image, and clean
+  pub image-formed : k .clock < 2 ^ 64 → All (λ x. x < 2 ^ 64) (k .until) → st .pending < 2 ^ 32 → formed (imageOf st) ≡ true
+  unfolding formed
+  image-formed c u few = rw (eq-eqb (length (imageOf st)) 512 image-size, image-back c u few .1)
 
 -- ---- Reading, then writing
 

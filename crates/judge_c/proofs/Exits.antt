@@ -8,8 +8,8 @@ use lib.ListN.{length, getD, set, length-set}
 use Rattle.judge_verdict.specs.declared.Verdict.{Verdict}
 use Rattle.judge_verdict.specs.declared.Verdict.the-variants.{Agrees, Differs, Refused}
 use Rattle.judge_verdict.specs.Verdict.{verdict-of}
-use Rattle.judge_c.specs.declared.Reply.{Reply}
-use Rattle.judge_c.specs.Call.{reply-of, reply-to, answer, numbers}
+use Rattle.judge_call.specs.declared.Reply.{Reply}
+use Rattle.judge_call.specs.Call.{reply-of, reply-to, answer, numbers}
 
 -- a store keeps the count
 pub third : (l : List ℕ) (w x : ℕ) → length l ≡ 4 → 2 < length (set (set l 0 w) 1 x)

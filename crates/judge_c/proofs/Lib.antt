@@ -1,3 +1,2 @@
 mod Exits
-mod Theorems
 mod Single

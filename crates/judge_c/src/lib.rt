@@ -1,22 +1,17 @@
 // The judge of tapes for C hosts: a host lends a whole tape, and four numbers to be told in.
 //
-// docs/JUDGE-C.md has the call for a host's author, and specs/Call says what it answers and leaves. A tape of every
-// length, whatever it holds, gets an answer, and so does every count of numbers: the exported function has no
+// docs/JUDGE-C.md has the call for a host's author, and judge_call/specs/Call says what it answers and leaves. A tape
+// of every length, whatever it holds, gets an answer, and so does every count of numbers: the exported function has no
 // `requires`.
 ghost use mathlib.Core.Path.{_≡_};
 ghost use Rattle.record_kept.specs.Kept.{packed};
-ghost use Rattle.judge_c.specs.Call as call;
+ghost use Rattle.judge_call.specs.Call as call;
+use judge_call::Reply;
 use judging::Judgement;
 use judging::Verdict;
 use judging::judged;
 use numbers::wide32;
 use record_kept::Kept;
-
-// What C is told of a judgement: the answer of the call, and the numbers that it writes.
-struct Reply {
-    code: u32,
-    numbers: [u64; 4],
-}
 
 // What is kept of an answer in one number, as rvn_step packs it.
 fn pack(k: Kept) -> u64

@@ -17,10 +17,10 @@ use Rattle.record_kept.specs.declared.Kept.{Kept}
 use Rattle.record_kept.specs.Kept.{kept-of}
 use Rattle.judge_verdict.specs.declared.Verdict.{Verdict}
 use Rattle.judge_verdict.specs.Verdict.{command-shown}
-use Rattle.judge_record.specs.declared.Stage.the-variants.{Going, Over}
-use Rattle.judge_record.specs.Behind.{refused, headed, compared}
-use Rattle.judge_onward.specs.declared.Run.{Run}
-use Rattle.judge_onward.specs.Onward.{run-of, head-of, answered, taken, onward}
+use Rattle.judge_verdict.specs.declared.Stage.the-variants.{Going, Over}
+use Rattle.judge_verdict.specs.Behind.{refused, headed, compared}
+use Rattle.judge_pieces.specs.declared.Run.{Run}
+use Rattle.judge_pieces.specs.Onward.{run-of, head-of, answered, taken, onward}
 
 -- the step's tables and what is kept of its answer, of the command that the record has
 pub stepped : (x : Run) (r : Record) (d : Command) (k : Kernel) (a : Answer) (p : Kept) → d ≡ command-shown r → k ≡ steppedOf (x .kernel) (to-rules d) .next

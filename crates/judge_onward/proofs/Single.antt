@@ -11,9 +11,9 @@ use contract.Monad.{Fun}
 use denote.Ref.{now}
 use Rattle.kernel.specs.declared.Kernel.{Kernel}
 use Rattle.kernel.specs.Step.{tables}
-use Rattle.judge_record.specs.declared.Head.{Head}
-use Rattle.judge_onward.specs.declared.Run.{Run}
-use Rattle.judge_onward.specs.Onward.{run-of, head-of}
+use Rattle.judge_verdict.specs.declared.Head.{Head}
+use Rattle.judge_pieces.specs.declared.Run.{Run}
+use Rattle.judge_pieces.specs.Onward.{run-of, head-of}
 use Rattle.one_answer.proofs.Law.{OneEnd, both}
 use Rattle.judge_onward.proofs.onward
 

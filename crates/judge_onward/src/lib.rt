@@ -1,29 +1,20 @@
 // The next record of a tape, judged on the machine's tables: its command is carried out where they lie.
 ghost use mathlib.Core.Path.{_≡_};
 ghost use Rattle.kernel.specs.Step.{tables};
-ghost use Rattle.judge_onward.specs.Onward as run;
-ghost use Rattle.judge_onward.specs.Onward.{run-of};
-use judge_record::Head;
-use judge_record::Stage;
+ghost use Rattle.judge_pieces.specs.Onward as run;
+ghost use Rattle.judge_pieces.specs.Onward.{run-of};
 use judge_record::command_of;
 use judge_record::compared;
 use judge_record::headed;
 use judge_record::refused;
-use kernel::Kernel;
+use judge_verdict::Head;
+use judge_verdict::Stage;
 use kernel::in_place::step_trusting;
 use numbers::choose;
 use record::fault;
 use record_bytes::is_marked;
 use record_bytes::record_of;
 use record_kept::kept_of;
-
-// The records judged so far: the machine behind them, and the place of the next one, which is 16 times its number.
-pub struct Run {
-    pub kernel: Kernel,
-    pub place: usize,
-    pub seed: u64,
-    pub stage: Stage,
-}
 
 // The next 16 bytes. 15 and 17 come before any judgement of the record; behind a verdict nothing is looked at.
 // From judging::Judge::fresh on the tables are always sound (judging/proofs/Whole), so the step does not test them. Of

@@ -10,8 +10,8 @@ use lib.Dec.{eqb}
 use lib.ListN.{length, take, drop, length-append, take-append-drop}
 use lib.Seq.{length-take-le}
 use Rattle.rules.specs.Line.{joined}
-use Rattle.judge_onward.specs.declared.Run.{Run}
-use Rattle.judge_onward.specs.Onward.{onward}
+use Rattle.judge_pieces.specs.declared.Run.{Run}
+use Rattle.judge_pieces.specs.Onward.{onward}
 use Rattle.judge_pieces.specs.Bytes.{Pending, byte, bytes, behind}
 
 pub bytes-append : (h : Pending) (p q : List ℕ) → bytes h (p ++ q) ≡ bytes (bytes h p) q

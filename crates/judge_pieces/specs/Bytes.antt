@@ -7,9 +7,9 @@ use lib.Dec.{eqb}
 use lib.ListN.{length}
 use Rattle.rules.specs.Machine.{fresh}
 use Rattle.kernel.specs.View.{encode}
-use Rattle.judge_record.specs.declared.Stage.the-variants.{Going}
-use Rattle.judge_onward.specs.declared.Run.{Run}
-use Rattle.judge_onward.specs.Onward.{onward}
+use Rattle.judge_verdict.specs.declared.Stage.the-variants.{Going}
+use Rattle.judge_pieces.specs.declared.Run.{Run}
+use Rattle.judge_pieces.specs.Onward.{onward}
 
 -- A judge as a list has it: the run, and the bytes of a record that is not whole yet.
 pub record Pending : Type 0 where

@@ -8,10 +8,10 @@ use Rattle.record_kept.specs.declared.Kept.{Kept}
 use Rattle.record_kept.specs.Kept.{kept-on, alike}
 use Rattle.judge_verdict.specs.declared.Verdict.the-variants.{Agrees}
 use Rattle.judge_verdict.specs.Verdict.{difference}
-use Rattle.judge_record.specs.declared.Stage.{Stage}
-use Rattle.judge_record.specs.declared.Stage.the-variants.{Going, Over}
-use Rattle.judge_record.specs.declared.Head.{Head}
-use Rattle.judge_record.specs.Behind.{beyond, refused-at, compared, at-end}
+use Rattle.judge_verdict.specs.declared.Stage.{Stage}
+use Rattle.judge_verdict.specs.declared.Stage.the-variants.{Going, Over}
+use Rattle.judge_verdict.specs.declared.Head.{Head}
+use Rattle.judge_verdict.specs.Behind.{beyond, refused-at, compared, at-end}
 
 -- ---- a command record
 module _ (h : Head) (r : Record) (k t : Kept) (s : Bool) (on : t ≡ kept-on r) (f : s ≡ alike t k) where

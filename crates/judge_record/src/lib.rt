@@ -1,12 +1,14 @@
 // One record of a tape, judged: where a judge stands behind it. (The machine that its command is carried out on, and
 // the pieces in which a tape comes: crate judging.)
 //
-// No public function has a `requires`. specs/Behind says what each answer is.
+// No public function has a `requires`. judge_verdict/specs/Behind says what each answer is.
 ghost use mathlib.Core.Path.{_≡_};
 ghost use Rattle.judge_verdict.specs.Verdict as verdict;
-ghost use Rattle.judge_record.specs.Behind as behind;
+ghost use Rattle.judge_verdict.specs.Behind as behind;
 use judge_verdict::Difference;
+use judge_verdict::Head;
 use judge_verdict::Refusal;
+use judge_verdict::Stage;
 use judge_verdict::Verdict;
 use kernel_checks::Command;
 use record::RECORD_BYTES;
@@ -14,21 +16,6 @@ use record::Record;
 use record_kept::Kept;
 use record_kept::kept_on;
 use record_kept::same;
-
-pub enum Stage {
-    // all is right so far
-    Going,
-    // the verdict is there, and no record is looked at any more
-    Over(Verdict),
-}
-
-// Where a judge stands beside its machine: the place of the next record, which is 16 times its number, the seed that
-// is shown, and the stage.
-pub struct Head {
-    pub place: usize,
-    pub seed: u64,
-    pub stage: Stage,
-}
 
 // The place behind a record. The last places of 64 bits are followed by themselves: no tape is so long.
 fn beyond(place: usize) -> usize

@@ -1,5 +1,5 @@
-// The judgement of a tape as a type, no code: specs/Verdict says which judgement a tape has, proofs/ what follows from
-// that.
+// The judgement of a tape as a type, and where a judge stands that reads one, no code: specs/Verdict says which
+// judgement a tape has, specs/Behind where a judge stands behind a record, proofs/ what follows from the first.
 pub use kernel_checks::Command;
 pub use record_kept::Kept;
 
@@ -31,4 +31,19 @@ pub enum Verdict {
 pub struct Judgement {
     pub seed: u64,
     pub verdict: Verdict,
+}
+
+pub enum Stage {
+    // all is right so far
+    Going,
+    // the verdict is there, and no record is looked at any more
+    Over(Verdict),
+}
+
+// Where a judge stands beside its machine: the place of the next record, which is 16 times its number, the seed that
+// is shown, and the stage.
+pub struct Head {
+    pub place: usize,
+    pub seed: u64,
+    pub stage: Stage,
 }

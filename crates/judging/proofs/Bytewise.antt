@@ -12,12 +12,12 @@ use lib.Seq.{length-take-le, getD-take, getD-append-add, take-all, drop-drop}
 use Rattle.tape_form.proofs.Reading.{sixteen}
 use Rattle.kernel.specs.View.{pad}
 use Rattle.kernel.proofs.Padded.{pad-size}
-use Rattle.judge_onward.specs.declared.Run.{Run}
+use Rattle.judge_pieces.specs.declared.Run.{Run}
 use Rattle.judging.specs.declared.Judge.{Judge}
 use Rattle.judge_pieces.specs.Bytes.{bytes}
 use Rattle.judge_pieces.proofs.Bytewise.{bytes-append, bytes-short, bytes-whole, bytes-begun}
 use Rattle.judging.specs.Pieces.{pending-of, fed, through}
-use Rattle.judge_onward.specs.Onward.{onward}
+use Rattle.judge_pieces.specs.Onward.{onward}
 
 -- ---- lists of 16
 

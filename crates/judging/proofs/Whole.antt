@@ -29,20 +29,20 @@ use Rattle.tape_form.proofs.Reading.{Stands, stands, found, end, no-record, no-
 use Rattle.judge_verdict.specs.declared.Verdict.{Verdict}
 use Rattle.judge_verdict.specs.declared.Verdict.the-variants.{Agrees, Refused as Malformed}
 use Rattle.judge_verdict.specs.declared.Judgement.{Judgement}
-use Rattle.judge_record.specs.declared.Stage.the-variants.{Going, Over}
-use Rattle.judge_record.specs.declared.Stage.{Stage}
-use Rattle.judge_record.specs.declared.Head.{Head}
-use Rattle.judge_onward.specs.declared.Run.{Run}
+use Rattle.judge_verdict.specs.declared.Stage.the-variants.{Going, Over}
+use Rattle.judge_verdict.specs.declared.Stage.{Stage}
+use Rattle.judge_verdict.specs.declared.Head.{Head}
+use Rattle.judge_pieces.specs.declared.Run.{Run}
 use Rattle.judging.specs.declared.Judge.{Judge}
 use Rattle.record_kept.specs.Kept.{kept, kept-on, alike}
 use Rattle.judge_verdict.specs.Verdict.{command-of, difference, seed-shown, judged-from, verdict-of}
-use Rattle.judge_record.specs.Behind.{to-come, beyond, refused-at, refused, headed, compared}
+use Rattle.judge_verdict.specs.Behind.{to-come, beyond, refused-at, refused, headed, compared}
 use Rattle.judge_pieces.specs.Bytes.{Pending, byte, bytes, behind}
 use Rattle.judge_pieces.proofs.Bytewise.{bytes-short, bytes-begun, few-begun, behind-joined}
 use Rattle.judging.specs.Pieces.{pending-of, judge-of, at-first, fed, ended, judged-in}
 use Rattle.judging.proofs.Bytewise.{take-pad}
 use Rattle.judge_onward.proofs.Exits.{onward-over}
-use Rattle.judge_onward.specs.Onward.{run-of, head-of, answered, taken, onward}
+use Rattle.judge_pieces.specs.Onward.{run-of, head-of, answered, taken, onward}
 
 -- ---- behind a verdict nothing changes
 

@@ -5,8 +5,8 @@ use mathlib.Core.List.{List, [], _∷_}
 use lib.ListN.{length, take, replicate}
 use Rattle.kernel.specs.View.{pad}
 use Rattle.judge_verdict.specs.declared.Judgement.{Judgement}
-use Rattle.judge_record.specs.Behind.{at-end}
-use Rattle.judge_onward.specs.declared.Run.{Run}
+use Rattle.judge_verdict.specs.Behind.{at-end}
+use Rattle.judge_pieces.specs.declared.Run.{Run}
 use Rattle.judge_pieces.specs.Bytes.{Pending, bytes, at-start}
 use Rattle.judging.specs.declared.Judge.{Judge}
 

@@ -2,10 +2,10 @@
 ghost use mathlib.Core.Path.{_≡_};
 ghost use Rattle.kernel.specs.Step.{tables};
 ghost use Rattle.judging.specs.Pieces as pieces;
-ghost use Rattle.judge_onward.specs.Onward.{run-of};
-use judge_onward::Run;
+ghost use Rattle.judge_pieces.specs.Onward.{run-of};
 use judge_onward::onward;
-use judge_record::Head;
+use judge_pieces::Run;
+use judge_verdict::Head;
 use kernel::Kernel;
 use record::RECORD_BYTES;
 

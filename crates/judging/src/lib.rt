@@ -10,20 +10,20 @@ ghost use Prim.Native.Nat.{_≤_, min};
 ghost use lib.ListN.{take, getD};
 ghost use Rattle.kernel.specs.View.{pad};
 ghost use Rattle.judge_verdict.specs.Verdict as verdict;
-ghost use Rattle.judge_record.specs.Behind as behind;
+ghost use Rattle.judge_verdict.specs.Behind as behind;
 ghost use Rattle.judging.specs.Pieces as pieces;
 
 mod in_place;
 
-pub use judge_onward::Run;
-use judge_record::Head;
-pub use judge_record::Stage;
+pub use judge_pieces::Run;
 use judge_record::at_end;
 pub use judge_verdict::Command;
 pub use judge_verdict::Difference;
+use judge_verdict::Head;
 pub use judge_verdict::Judgement;
 pub use judge_verdict::Kept;
 pub use judge_verdict::Refusal;
+pub use judge_verdict::Stage;
 pub use judge_verdict::Verdict;
 pub use kernel::Kernel;
 use record::RECORD_BYTES;

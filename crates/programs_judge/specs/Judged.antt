@@ -10,7 +10,7 @@ use Rattle.programs_flow.specs.Loops.{Text, None-empty, behind, Over}
 use Rattle.judging.specs.declared.Judge.{Judge}
 use Rattle.judge_verdict.specs.declared.Judgement.{Judgement}
 use Rattle.judge_verdict.specs.Verdict.{status-of as status-on}
-use Rattle.judge_record.specs.Behind.{to-come}
+use Rattle.judge_verdict.specs.Behind.{to-come}
 use Rattle.judging.specs.Pieces.{at-first, fed, judged-in}
 use Rattle.report_text.specs.Report.{report-text}
 

@@ -17,7 +17,7 @@ use Rattle.judge_verdict.specs.declared.Difference.{Difference}
 use Rattle.judge_verdict.specs.declared.Verdict.{Verdict}
 use Rattle.judge_verdict.specs.declared.Verdict.the-variants.{Agrees, Differs, Refused}
 use Rattle.judge_verdict.specs.declared.Judgement.{Judgement}
-use Rattle.judge_record.specs.Behind.{place-of}
+use Rattle.judge_verdict.specs.Behind.{place-of}
 use Rattle.report_text.specs.Report.{stands-at, line-text, command-text, answer-text, answers-text, difference-text, verdict-text, report-text}
 use Rattle.report_text.specs.Report.{report-room}
 

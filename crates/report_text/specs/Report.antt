@@ -11,7 +11,7 @@ use Rattle.judge_verdict.specs.declared.Difference.{Difference}
 use Rattle.judge_verdict.specs.declared.Verdict.{Verdict}
 use Rattle.judge_verdict.specs.declared.Verdict.the-variants.{Agrees, Differs, Refused}
 use Rattle.judge_verdict.specs.declared.Judgement.{Judgement}
-use Rattle.judge_record.specs.Behind.{place-of}
+use Rattle.judge_verdict.specs.Behind.{place-of}
 
 -- a text, and a number behind it
 abbrev pub named : String → ℕ → List ℕ

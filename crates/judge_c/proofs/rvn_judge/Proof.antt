@@ -3,7 +3,7 @@ use mathlib.Core.Path.{ap, _∙_}
 use borrow.Author.Needs.{needs}
 use borrow.Author.Tests.{ne-eqb}
 use lib.ListN.{length, getD}
-use Rattle.judge_c.specs.Call.{reply-to, answer, numbers}
+use Rattle.judge_call.specs.Call.{reply-to, answer, numbers}
 use Rattle.judge_c.proofs.Exits.{third, fourth, answered, written}
 use Rattle.judge_c.proofs.rvn_judge.Statement.{statement}
 use Rattle.judge_c.proofs.rvn_judge.Tie as tie

@@ -4,9 +4,9 @@ use mathlib.Core.Path.{_≡_, ap, _∙_}
 use Rattle.kernel.specs.Step.{tables}
 use Rattle.record.proofs.Faults.{bytesFault}
 use Rattle.tape_form.proofs.Reading.{number-so}
-use Rattle.judge_record.specs.declared.Stage.the-variants.{Going}
-use Rattle.judge_onward.specs.declared.Run.{Run}
-use Rattle.judge_onward.specs.Onward.{run-of, answered}
+use Rattle.judge_verdict.specs.declared.Stage.the-variants.{Going}
+use Rattle.judge_pieces.specs.declared.Run.{Run}
+use Rattle.judge_pieces.specs.Onward.{run-of, answered}
 use Rattle.judge_onward.proofs.Exits.{onward-over, onward-refused, onward-header, onward-command, stepped}
 use borrow.Author.Needs.{needs}
 use Rattle.judge_onward.proofs.onward.Statement.{statement}

@@ -7,7 +7,7 @@ use lib.ListN.{length, drop}
 use Rattle.kernel.specs.Step.{tables}
 use Rattle.judging.specs.declared.Judge.{Judge}
 use Rattle.judging.specs.Pieces.{through}
-use Rattle.judge_onward.specs.Onward.{run-of}
+use Rattle.judge_pieces.specs.Onward.{run-of}
 use Rattle.judging.proofs.Bytewise.{through-turn, through-end}
 use borrow.Author.Needs.{needs}
 use Rattle.judging.proofs.in_place.records.Statement.{statement}

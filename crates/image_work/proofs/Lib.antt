@@ -1,0 +1,2 @@
+mod Exits
+mod Single
