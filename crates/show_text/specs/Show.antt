@@ -7,8 +7,6 @@ use mathlib.Core.List.{List, [], _∷_, _++_}
 use lib.Dec.{eqb, leb, ltb}
 use lib.ListN.{length}
 use lib.Seq.{sets}
-use Rattle.rules.specs.Machine.{runner}
-use Rattle.rules.specs.Kinds.{kind}
 use Rattle.rules_exceptions.specs.Exceptions.{fresh}
 use Rattle.kernel.specs.declared.command.Answer as K
 use Rattle.kernel.specs.Public.{runningOf}
@@ -17,7 +15,8 @@ use Rattle.kernel_state.specs.declared.State.{State}
 use Rattle.kernel_state.specs.declared.Answer.{Answer}
 use Rattle.kernel_state.specs.Public.{view, encode, answerOf, stepOf}
 use Rattle.queue_chip.specs.declared.Queue.{Queue}
-use Rattle.queue_chip.specs.Queue.{none, follow}
+use Rattle.queue_chip.specs.Queue.{none}
+use Rattle.queue_beside.specs.Beside.{followed}
 use Rattle.text.specs.declared.Held.{Held}
 use Rattle.text.specs.declared.Row.{Row}
 use Rattle.text.specs.declared.Spoken.{Spoken}
@@ -42,13 +41,9 @@ answer-to s l = cond (eqb (l .code) 0) (stepOf s (asked l) .answer) (answerOf (l
 unfoldable pub state-behind : State → Spoken → State
 state-behind s l = cond (eqb (l .code) 0) (stepOf s (asked l) .next) s
 
--- The chip's queue behind it: an accepted command moves the queue by its kind and value, and by the clock and the
--- runner before it; all else leaves it.
+-- the chip's queue behind it
 unfoldable pub queue-behind : State → Queue → Spoken → Queue
-queue-behind s q l =
-    cond (eqb (answer-to s l .code) 0)
-    (follow (kind (asked l)) (s .kernel .clock) (l .value) (runner (view s .machine)) q)
-    q
+queue-behind s q l = cond (eqb (l .code) 0) (followed s (asked l) q) q
 
 -- What of an answer stands in walk's row: all but the exception.
 abbrev pub plain : Answer → K.Answer

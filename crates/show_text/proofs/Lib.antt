@@ -1,0 +1,4 @@
+pub mod Indents
+pub mod Blocks
+pub mod Steps
+pub mod Theorems
