@@ -1,8 +1,9 @@
 -- A row of walk does not begin with a blank, and every line of the block under it does. Assumes nothing.
 use Prim.Native.Nat.{ℕ}
+use Prim.Native.String.{String}
 use mathlib.Core.Bool.{Bool}
 use mathlib.Core.Path.{_≡_, refl}
-use mathlib.Core.List.{List, [], _∷_, _++_}
+use mathlib.Core.List.{List, [], _∷_, _++_, append-assoc}
 use lib.Dec.{eqb}
 use lib.ListN.{getD}
 use Rattle.rules.specs.Line.{at, one-if}
@@ -12,9 +13,9 @@ use Rattle.queue_chip.specs.declared.Queue.{Queue}
 use Rattle.queue_chip.specs.Queue.{in-use}
 use Rattle.text.specs.declared.Row.{Row}
 use Rattle.text.specs.Words.{bytes, blank}
-use Rattle.text.specs.Printed.{walk-line, answer-fields, field}
-use Rattle.show_text.specs.Block.{number, pair, end, each, flags-text, task-text, tasks-text, ready-list, ready-text, delay-list, delay-text}
-use Rattle.show_text.specs.Block.{owed-text, pending-text, holder, numbers-text, held-text, object-text, objects-text}
+use Rattle.text.specs.Printed.{walk-line, answer-fields}
+use Rattle.show_text.specs.Block.{number, named, pair, end, each, flags-text, task-text, tasks-text, ready-list, ready-text, delay-list, delay-text}
+use Rattle.show_text.specs.Block.{owed-text, pending-text, holder, numbers-text, object-line, object-text, objects-text}
 use Rattle.show_text.specs.Block.{entry-text, registers-text, cell-text, table-text, block}
 use Rattle.show_text.proofs.Indents.{Within, within-both, within-number, within-pair, within-if, within-unless, within-each, Ends, ends-end, then-ends}
 use Rattle.show_text.proofs.Indents.{Dropped, begun-dropped, dropped-both, dropped-if, dropped-each, Kept, last-stays, more-stays, number-kept}
@@ -25,15 +26,22 @@ row-kept r =
     number-kept (r .n) _
     (more-stays (r .op) _ (more-stays (r .code) _ (more-stays (r .running) _ (more-stays (r .released) _ (last-stays (r .clock))))))
 
--- a number, or a word, and then the rest of the line
-number-ends : (n : ℕ) (b : List ℕ) → Ends b → Ends (number n ++ b)
-number-ends n b e = then-ends (number n) b (within-number n) e
+-- a word with its number, within a line and at its beginning
+within-named : (w : String) (n : ℕ) → Within (bytes w) → Within (named w n)
+within-named w n v = within-both (bytes w) (number n) v (within-number n)
+
+then-named : (w : String) (n : ℕ) (b : List ℕ) → Within (bytes w) → Ends b → Ends (named w n ++ b)
+then-named w n b v e = then-ends (named w n) b (within-named w n v) e
+
+named-dropped : (w : List ℕ) (n : ℕ) (b : List ℕ) → Within w → Ends b → Dropped ((blank ∷ (w ++ number n)) ++ b)
+named-dropped w n b v e = dropped-as (append-assoc w (number n) b) (begun-dropped w (number n ++ b) v (then-ends (number n) b (within-number n) e))
+  where
+    dropped-as : {x y : List ℕ} → x ≡ y → Dropped (blank ∷ y) → Dropped (blank ∷ x)
+    dropped-as p d = rw p d
 
 flags-dropped : (s e : Bool) → Dropped (flags-text s e)
 unfolding flags-text
-flags-dropped s e =
-    begun-dropped (bytes "started") _ refl
-    (number-ends (one-if s) _ (then-ends (bytes " exception") _ refl (number-ends (one-if e) end ends-end)))
+flags-dropped s e = named-dropped (bytes "started") (one-if s) _ refl (then-named " exception" (one-if e) end refl ends-end)
 
 -- a word and a list behind it
 list-dropped : (w l : List ℕ) → Within w → Within l → Dropped (blank ∷ (w ++ (l ++ end)))
@@ -74,38 +82,30 @@ unfolding numbers-text
 numbers-within [] = refl
 numbers-within (t ∷ l) = within-both (number t) (numbers-text l) (within-number t) (numbers-within l)
 
-held-within : (m : Machine) (t : ℕ) → Within (held-text m t)
-unfolding held-text
-held-within m t =
-    within-both (bytes " holder") _ refl
-    (within-both (number t) _ (within-number t) (within-both (bytes " way") (number (way-held m t)) refl (within-number (way-held m t))))
-
 object-dropped : (m : Machine) (o : ℕ) → Dropped (object-text m o)
-unfolding object-text
+unfolding object-text object-line
 object-dropped m o =
+    let l = getD (m .queue) o [] in
     dropped-if (declared m o) _
-    (begun-dropped (bytes "object") _ refl
-    (number-ends o _
-    (then-ends (bytes " ceiling") _ refl
-    (number-ends (at (m .ceiling) o) _
-    (then-ends (held-text m (holder m o)) _ (held-within m (holder m o))
-    (then-ends (bytes " waiters") _ refl (then-ends (numbers-text (getD (m .queue) o [])) end (numbers-within (getD (m .queue) o [])) ends-end)))))))
+    (named-dropped (bytes "object") o _ refl
+    (then-named " ceiling" (at (m .ceiling) o) _ refl
+    (then-named " holder" (holder m o) _ refl
+    (then-named " way" (way-held m (holder m o)) _ refl
+    (then-ends (bytes " waiters") _ refl (then-ends (numbers-text l) end (numbers-within l) ends-end))))))
 
 entry-ends : (time age : ℕ) → Ends (entry-text time age)
 unfolding entry-text
-entry-ends time age = then-ends (bytes " time") _ refl (number-ends time _ (then-ends (bytes " age") _ refl (number-ends age end ends-end)))
+entry-ends time age = then-named " time" time _ refl (then-named " age" age end refl ends-end)
 
 registers-dropped : (q : Queue) → Dropped (registers-text q)
 unfolding registers-text
-registers-dropped q =
-    begun-dropped (bytes "registers task") _ refl (number-ends (q .task) (entry-text (q .time) (q .age)) (entry-ends (q .time) (q .age)))
+registers-dropped q = named-dropped (bytes "registers task") (q .task) (entry-text (q .time) (q .age)) refl (entry-ends (q .time) (q .age))
 
 cell-dropped : (q : Queue) (t : ℕ) → Dropped (cell-text q t)
 unfolding cell-text
 cell-dropped q t =
     dropped-if (in-use (at (q .ages) t)) _
-    (begun-dropped (bytes "table task") _ refl
-    (number-ends t (entry-text (at (q .times) t) (at (q .ages) t)) (entry-ends (at (q .times) t) (at (q .ages) t))))
+    (named-dropped (bytes "table task") t (entry-text (at (q .times) t) (at (q .ages) t)) refl (entry-ends (at (q .times) t) (at (q .ages) t)))
 
 pub block-dropped : (m : Machine) (p : ℕ) (q : Queue) (e : Bool) → Dropped (block m p q e)
 unfolding block objects-text table-text

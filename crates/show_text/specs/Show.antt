@@ -124,6 +124,18 @@ fed only w piece out =
 abbrev pub fed-out : ℕ → Showing → List ℕ → List ℕ → List ℕ
 fed-out only w piece out = cond (roomy piece out) (sets out 0 (text-for only w piece)) out
 
+-- The same of a show whose tables are lent: the show and the answer from their parts; and what is answered and left in
+-- the buffer.
+abbrev pub standing : State → Queue → Held → ℕ → Showing
+standing s q h n = record { state = s; queue = q; held = h; n = n }
+
+abbrev pub stood : Showing → ℕ → Fed
+stood w at = record { showing = w; at = at }
+
+abbrev pub Feeds : ℕ → Showing → List ℕ → List ℕ → Fed → List ℕ → Type 0
+Feeds only w piece out r left =
+    (r ≡ fed only w piece out) × (left ≡ fed-out only w piece out) × In-front (r .at) left
+
 -- At the end of the input: a last line without a line end counts.
 unfoldable pub last-text : ℕ → Showing → List ℕ
 last-text only w = shown only (w .state) (w .queue) (w .n) (last-piece (held-bytes (w .held)))
@@ -143,8 +155,9 @@ abbrev pub wants : ℕ → Showing → Bool
 wants only w = eqb only 0 || ltb (w .n) only
 
 -- What show reads at a time, and the room that it lends: a row and a block for each byte of a piece, and one more.
+-- (15 bytes, for the programs run on a stack of 128 KiB: host/io.py holds them to it. The room is 65,536 bytes.)
 abbrev pub show-piece : ℕ
-show-piece = 255
+show-piece = 15
 
 abbrev pub show-lent : ℕ
 show-lent = show-room * suc show-piece
