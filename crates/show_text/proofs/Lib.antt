@@ -2,3 +2,4 @@ pub mod Indents
 pub mod Blocks
 pub mod Steps
 pub mod Theorems
+pub mod Rooms

@@ -3,7 +3,7 @@
 use Prim.Native.Nat.{ℕ, suc, _+_, _≤_, _<_}
 use native.Mathlib.Omega.{arith}
 use mathlib.Core.Bool.{Bool, true, false, cond}
-use mathlib.Core.Path.{_≡_, refl, sym, ap, subst, _∙_}
+use mathlib.Core.Path.{_≡_, refl, sym, ap, _∙_}
 use mathlib.Core.Logic.{_≢_}
 use mathlib.Core.List.{List, [], _∷_, _++_, map, append-assoc, append-nil}
 use lib.Dec.{eqb, ltb}
@@ -11,14 +11,11 @@ use lib.ListN.{length}
 use borrow.Author.Tests.{eqb-false, eq-eqb, ne-eqb, lt-ltb, ltb-false}
 use Rattle.rules.specs.Line.{joined}
 use Rattle.rules.proofs.Tests.{both-false}
-use Rattle.rules.specs.Machine as M
-use Rattle.rules.specs.Run as R
-use Rattle.rules_exceptions.specs.Exceptions.{fresh, run}
-use Rattle.rules_exceptions.specs.Exceptions as X
+use Rattle.rules_exceptions.specs.Exceptions.{fresh, run, answer}
 use Rattle.rules_exceptions.proofs.Theorems.{fresh-is-sound, run-keeps-sound, runs-alike}
 use Rattle.kernel_state.specs.declared.State.{State}
 use Rattle.kernel_state.specs.Public.{view, encode, isSound}
-use Rattle.kernel_state.proofs.Written.{encode-sound, view-encode}
+use Rattle.kernel_state.proofs.Written.{encode-sound, view-encode, step-on}
 use Rattle.queue_chip.specs.declared.Queue.{Queue}
 use Rattle.queue_chip.specs.Queue.{none}
 use Rattle.queue_chip.specs.Chip as Chip
@@ -29,11 +26,12 @@ use Rattle.text.specs.Lines.{kept, lines, cuts, holds-after, lines-of-pieces, e
 use Rattle.text.specs.Printed.{walk-header, walk-line}
 use Rattle.text.proofs.Kept.{kept-says}
 use Rattle.text.proofs.Theorems.{lines-whole}
-use Rattle.session.specs.CarriedOut.{following}
+use Rattle.session.specs.CarriedOut.{following, asked}
 use Rattle.session_walk_text.specs.Walk.{walked, number-after, walk-text}
 use Rattle.show_text.specs.declared.Showing.{Showing}
 use Rattle.show_text.specs.Show.{state-behind, queue-behind, answer-to, row-for, block-of, line-text, wanted, shown, state-after, queue-after, show-text}
 use Rattle.show_text.specs.Show.{at-first, text-for, show-after, last-text, printed, wants}
+use Rattle.show_text.specs.Block.{block}
 use Rattle.show_text.specs.Words.{unindented, unindented-of, commands, entry}
 use Rattle.show_text.proofs.Indents.{header-kept}
 use Rattle.show_text.proofs.Blocks.{row-kept, block-dropped}
@@ -203,3 +201,46 @@ module _ (ls : List (List ℕ)) where
   pub queue-is-lines : StandsFor (queue-after (encode fresh) none ls) (view (state-after (encode fresh) ls) .machine .delay)
   queue-is-lines =
       rw (queue-is-chips, state-is-runs, runs-alike (commands ls) fresh) (queue-stands (commands ls))
+
+-- ## What stands under a row
+state-snoc : (ls : List (List ℕ)) (l : List ℕ) (s : State) → state-after s (ls ++ (l ∷ [])) ≡ state-behind (state-after s ls) (command-of l)
+unfolding state-after
+state-snoc [] l s = refl
+state-snoc (k ∷ ls) l s = state-snoc ls l (state-behind s (command-of k))
+
+queue-snoc : (ls : List (List ℕ)) (l : List ℕ) (s : State) (q : Queue)
+    → queue-after s q (ls ++ (l ∷ [])) ≡ queue-behind (state-after s ls) (queue-after s q ls) (command-of l)
+unfolding state-after queue-after
+queue-snoc [] l s q = refl
+queue-snoc (k ∷ ls) l s q = queue-snoc ls l (state-behind s (command-of k)) (queue-behind s q (command-of k))
+
+block-seen : (s : State) (q : Queue) (e : Bool) → block-of s q e ≡ block (view s .machine) (view s .pending) q e
+unfolding block-of view
+block-seen s q e = refl
+
+module _ (ls : List (List ℕ)) (l : List ℕ) where
+  abbrev before : State
+  before = state-after (encode fresh) ls
+
+  -- It is the block of the rules' state, and of the second model's queue, behind the commands of all lines up to that of the row.
+  -- Rules out: the state before the step, or that of another line; a queue that lags behind. Leaves: what a block says of a state (Worked, the stored cases).
+  pub entry-shows : let cs = commands (ls ++ (l ∷ [])) in let s = run fresh cs in
+      entry ls l ≡ walk-line (row-for before (suc (length ls)) (command-of l))
+      ++ block (s .machine) (s .pending) (Chip.run Chip.fresh cs .queue) (answer-to before (command-of l) .exception)
+  unfolding line-text
+  entry-shows =
+      let all = ls ++ (l ∷ []) in
+      rw (← state-snoc ls l (encode fresh), ← queue-snoc ls l (encode fresh) none, block-seen, state-is-runs all, queue-is-chips all)
+
+  -- The exception that it tells of is the rules' answer's. A line that says no command shows none.
+  -- Rules out: an exception that is told under another row. Leaves: nothing of it.
+  pub entry-excepts : command-of l .code ≡ 0
+      → answer-to before (command-of l) .exception ≡ answer (run fresh (commands ls)) (asked (command-of l)) .exception
+  unfolding answer-to
+  entry-excepts z =
+      let x = run fresh (commands ls) in
+      rw (eq-eqb (command-of l .code) 0 z, state-runs ls fresh fresh-is-sound, step-on x (run-keeps-sound fresh (commands ls) fresh-is-sound) (asked (command-of l)))
+
+  pub none-excepts : command-of l .code ≢ 0 → answer-to before (command-of l) .exception ≡ false
+  unfolding answer-to
+  none-excepts z = rw (ne-eqb (command-of l .code) 0 z)

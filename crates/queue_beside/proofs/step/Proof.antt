@@ -17,7 +17,14 @@ follow-accepted-requires : tie.Need-follow-accepted-requires
 follow-accepted-requires c κs = search needs
 
 returns : tie.Need-returns
-returns c = ?
+returns c =
+    let step = c .before .step in
+    let ran = c .before .before .before .before .before .before .before .before .before .before .before .before .before in
+    let a = ran .before .before .before .args in
+    let k = tables (a .base .now) (a .ready .now) (a .delayed .now) (a .held .now) (a .way .now) (a .until .now) (a .ceiling .now) (a .waiter .now)
+    (a .clock .now) (a .started .now) in
+    moved (both k (a .pending .now)) _ (a .q) (to-rules (a .c)) (step .result) (ran .runner .result) (c .follow-accepted .result) (step .ensures)
+    (ran .runner .ensures) (c .follow-accepted .ensures)
 
 pub step-spec : {M : Type 1} → statement M
 step-spec = tie.close (tie.spec runner-requires step-requires follow-accepted-requires returns)
