@@ -1,8 +1,8 @@
 -- A row of walk does not begin with a blank, and every line of the block under it does. Assumes nothing.
 use Prim.Native.Nat.{ℕ}
 use Prim.Native.String.{String}
-use mathlib.Core.Bool.{Bool}
-use mathlib.Core.Path.{_≡_, refl}
+use mathlib.Core.Bool.{Bool, true}
+use mathlib.Core.Path.{_≡_, refl, sym, ap, _∙_}
 use mathlib.Core.List.{List, [], _∷_, _++_, append-assoc}
 use lib.Dec.{eqb}
 use lib.ListN.{getD}
@@ -11,47 +11,62 @@ use Rattle.rules.specs.Machine.{Machine, task-count, object-count, declared, wa
 use Rattle.rules_exceptions.specs.Exceptions.{has}
 use Rattle.queue_chip.specs.declared.Queue.{Queue}
 use Rattle.queue_chip.specs.Queue.{in-use}
+use Rattle.decimal.specs.Decimal.{decimal}
 use Rattle.text.specs.declared.Row.{Row}
-use Rattle.text.specs.Words.{bytes, blank}
-use Rattle.text.specs.Printed.{walk-line, answer-fields}
+use Rattle.text.specs.Words.{bytes, blank, line-end}
+use Rattle.text.specs.Printed.{walk-line, answer-fields, field}
+use Rattle.show_text.specs.Words.{indented}
 use Rattle.show_text.specs.Block.{number, named, pair, end, each, flags-text, task-text, tasks-text, ready-list, ready-text, delay-list, delay-text}
 use Rattle.show_text.specs.Block.{owed-text, pending-text, holder, numbers-text, object-line, object-text, objects-text}
 use Rattle.show_text.specs.Block.{entry-text, registers-text, cell-text, table-text, block}
-use Rattle.show_text.proofs.Indents.{Within, within-both, within-number, within-pair, within-if, within-unless, within-each, Ends, ends-end, then-ends}
-use Rattle.show_text.proofs.Indents.{Dropped, begun-dropped, dropped-both, dropped-if, dropped-each, Kept, last-stays, more-stays, number-kept}
+use Rattle.show_text.proofs.Indents.{Within, within-both, within-decimal, within-number, within-pair, within-if, within-unless, within-each}
+use Rattle.show_text.proofs.Indents.{Dropped, line-dropped, dropped-both, dropped-if, dropped-each, Kept, line-kept, unindented-more, decimal-unindented}
+
+-- a number with a blank behind it
+within-field : (n : ℕ) → Within (field n blank)
+within-field n = within-both (decimal n) (blank ∷ []) (within-decimal n) refl
+
+-- The row, without its line end.
+row-kept-as : (n op code running released clock : ℕ)
+    → Kept ((field n blank ++ field op blank) ++ (((field code blank ++ field running blank) ++ field released blank) ++ field clock line-end))
+row-kept-as n op code running released clock =
+    let a = field n blank ++ field op blank in
+    let b = (field code blank ++ field running blank) ++ field released blank in
+    kept-as (sym (ap (λ (t : List ℕ). a ++ t) (append-assoc b (decimal clock) end)) ∙ sym (append-assoc a (b ++ decimal clock) end))
+    (line-kept (a ++ (b ++ decimal clock))
+    (within-both a (b ++ decimal clock) (within-both (field n blank) (field op blank) (within-field n) (within-field op))
+    (within-both b (decimal clock)
+    (within-both (field code blank ++ field running blank) (field released blank)
+    (within-both (field code blank) (field running blank) (within-field code) (within-field running)) (within-field released)) (within-decimal clock)))
+    (unindented-more a (b ++ decimal clock)
+    (unindented-more (field n blank) (field op blank) (unindented-more (decimal n) (blank ∷ []) (decimal-unindented n)))))
+  where
+    kept-as : {x y : List ℕ} → x ≡ y → Kept y → Kept x
+    kept-as p k = rw p k
 
 pub row-kept : (r : Row) → Kept (walk-line r)
 unfolding walk-line answer-fields
-row-kept r =
-    number-kept (r .n) _
-    (more-stays (r .op) _ (more-stays (r .code) _ (more-stays (r .running) _ (more-stays (r .released) _ (last-stays (r .clock))))))
+row-kept r = row-kept-as (r .n) (r .op) (r .code) (r .running) (r .released) (r .clock)
 
--- a word with its number, within a line and at its beginning
+-- a word with its number
 within-named : (w : String) (n : ℕ) → Within (bytes w) → Within (named w n)
 within-named w n v = within-both (bytes w) (number n) v (within-number n)
 
-then-named : (w : String) (n : ℕ) (b : List ℕ) → Within (bytes w) → Ends b → Ends (named w n ++ b)
-then-named w n b v e = then-ends (named w n) b (within-named w n v) e
-
-named-dropped : (w : List ℕ) (n : ℕ) (b : List ℕ) → Within w → Ends b → Dropped ((blank ∷ (w ++ number n)) ++ b)
-named-dropped w n b v e = dropped-as (append-assoc w (number n) b) (begun-dropped w (number n ++ b) v (then-ends (number n) b (within-number n) e))
-  where
-    dropped-as : {x y : List ℕ} → x ≡ y → Dropped (blank ∷ y) → Dropped (blank ∷ x)
-    dropped-as p d = rw p d
-
 flags-dropped : (s e : Bool) → Dropped (flags-text s e)
-unfolding flags-text
-flags-dropped s e = named-dropped (bytes "started") (one-if s) _ refl (then-named " exception" (one-if e) end refl ends-end)
-
--- a word and a list behind it
-list-dropped : (w l : List ℕ) → Within w → Within l → Dropped (blank ∷ (w ++ (l ++ end)))
-list-dropped w l v u = begun-dropped w (l ++ end) v (then-ends l end u ends-end)
+unfolding flags-text indented
+flags-dropped s e =
+    line-dropped (named " started" (one-if s) ++ named " exception" (one-if e))
+    (within-both (named " started" (one-if s)) (named " exception" (one-if e)) (within-named " started" (one-if s) refl)
+    (within-named " exception" (one-if e) refl))
+    refl
 
 tasks-dropped : (m : Machine) → Dropped (tasks-text m)
-unfolding tasks-text task-text
+unfolding tasks-text task-text indented
 tasks-dropped m =
-    list-dropped (bytes "tasks") (each task-count (task-text m)) refl
-    (within-each task-count (task-text m) (λ t. within-unless (eqb (at (m .base) t) 0) _ (within-pair t (at (m .base) t))))
+    line-dropped (bytes " tasks" ++ each task-count (task-text m))
+    (within-both (bytes " tasks") (each task-count (task-text m)) refl
+    (within-each task-count (task-text m) (λ t. within-unless (eqb (at (m .base) t) 0) _ (within-pair t (at (m .base) t)))))
+    refl
 
 ready-within : (m : Machine) (l : List ℕ) → Within (ready-list m l)
 unfolding ready-list
@@ -59,8 +74,9 @@ ready-within m [] = refl
 ready-within m (t ∷ l) = within-both (pair t (active m t)) (ready-list m l) (within-pair t (active m t)) (ready-within m l)
 
 ready-dropped : (m : Machine) → Dropped (ready-text m)
-unfolding ready-text
-ready-dropped m = list-dropped (bytes "ready") (ready-list m (m .ready)) refl (ready-within m (m .ready))
+unfolding ready-text indented
+ready-dropped m =
+    line-dropped (bytes " ready" ++ ready-list m (m .ready)) (within-both (bytes " ready") (ready-list m (m .ready)) refl (ready-within m (m .ready))) refl
 
 delay-within : (l : List (ℕ × ℕ)) → Within (delay-list l)
 unfolding delay-list
@@ -68,52 +84,88 @@ delay-within [] = refl
 delay-within (e ∷ l) = within-both (pair (e .1) (e .0)) (delay-list l) (within-pair (e .1) (e .0)) (delay-within l)
 
 delay-dropped : (m : Machine) → Dropped (delay-text m)
-unfolding delay-text
-delay-dropped m = list-dropped (bytes "delay") (delay-list (m .delay)) refl (delay-within (m .delay))
+unfolding delay-text indented
+delay-dropped m =
+    line-dropped (bytes " delay" ++ delay-list (m .delay)) (within-both (bytes " delay") (delay-list (m .delay)) refl (delay-within (m .delay))) refl
 
 pending-dropped : (p : ℕ) → Dropped (pending-text p)
-unfolding pending-text owed-text
+unfolding pending-text owed-text indented
 pending-dropped p =
-    list-dropped (bytes "pending") (each task-count (owed-text p)) refl
-    (within-each task-count (owed-text p) (λ t. within-if (has p t) (number t) (within-number t)))
+    line-dropped (bytes " pending" ++ each task-count (owed-text p))
+    (within-both (bytes " pending") (each task-count (owed-text p)) refl
+    (within-each task-count (owed-text p) (λ t. within-if (has p t) (number t) (within-number t))))
+    refl
 
 numbers-within : (l : List ℕ) → Within (numbers-text l)
 unfolding numbers-text
 numbers-within [] = refl
 numbers-within (t ∷ l) = within-both (number t) (numbers-text l) (within-number t) (numbers-within l)
 
-object-dropped : (m : Machine) (o : ℕ) → Dropped (object-text m o)
-unfolding object-text object-line
-object-dropped m o =
-    let l = getD (m .queue) o [] in
-    dropped-if (declared m o) _
-    (named-dropped (bytes "object") o _ refl
-    (then-named " ceiling" (at (m .ceiling) o) _ refl
-    (then-named " holder" (holder m o) _ refl
-    (then-named " way" (way-held m (holder m o)) _ refl
-    (then-ends (bytes " waiters") _ refl (then-ends (numbers-text l) end (numbers-within l) ends-end))))))
+abbrev object-words : ℕ → ℕ → ℕ → ℕ → List ℕ → List ℕ
+object-words o top t way l =
+    named " object" o ++ named " ceiling" top ++ named " holder" t ++ named " way" way ++ bytes " waiters" ++ numbers-text l
 
-entry-ends : (time age : ℕ) → Ends (entry-text time age)
+object-within : (o top t way : ℕ) (l : List ℕ) → Within (object-words o top t way l)
+object-within o top t way l =
+    let a = named " object" o ++ named " ceiling" top in
+    let b = a ++ named " holder" t in
+    let c = b ++ named " way" way in
+    within-both (c ++ bytes " waiters") (numbers-text l)
+    (within-both c (bytes " waiters")
+    (within-both b (named " way" way)
+    (within-both a (named " holder" t)
+    (within-both (named " object" o) (named " ceiling" top) (within-named " object" o refl) (within-named " ceiling" top refl)) (within-named " holder" t refl))
+    (within-named " way" way refl)) refl) (numbers-within l)
+
+declared-dropped : (o top t way : ℕ) (l : List ℕ) → Dropped (object-line o top t way l)
+unfolding object-line indented
+declared-dropped o top t way l = line-dropped (object-words o top t way l) (object-within o top t way l) refl
+
+object-dropped : (m : Machine) (o : ℕ) → Dropped (object-text m o)
+unfolding object-text
+object-dropped m o =
+    let line = object-line o (at (m .ceiling) o) (holder m o) (way-held m (holder m o)) (getD (m .queue) o []) in
+    dropped-if (declared m o) line (declared-dropped o (at (m .ceiling) o) (holder m o) (way-held m (holder m o)) (getD (m .queue) o []))
+
+-- an entry of the queue, behind what it is of
+entry-dropped : (w : String) (t time age : ℕ) → Within (bytes w) → ((l : List ℕ) → indented (bytes w ++ l) ≡ true) → Dropped (named w t ++ entry-text time age)
 unfolding entry-text
-entry-ends time age = then-named " time" time _ refl (then-named " age" age end refl ends-end)
+entry-dropped w t time age v i =
+    let e = named " time" time ++ named " age" age in
+    dropped-as (sym (append-assoc (named w t) e end))
+    (line-dropped (named w t ++ e)
+    (within-both (named w t) e (within-named w t v)
+    (within-both (named " time" time) (named " age" age) (within-named " time" time refl) (within-named " age" age refl)))
+    (ap indented (append-assoc (bytes w) (number t) e) ∙ i (number t ++ e)))
+  where
+    dropped-as : {x y : List ℕ} → x ≡ y → Dropped y → Dropped x
+    dropped-as p d = rw p d
 
 registers-dropped : (q : Queue) → Dropped (registers-text q)
-unfolding registers-text
-registers-dropped q = named-dropped (bytes "registers task") (q .task) (entry-text (q .time) (q .age)) refl (entry-ends (q .time) (q .age))
+unfolding registers-text indented
+registers-dropped q = entry-dropped " registers task" (q .task) (q .time) (q .age) refl (λ l. refl)
 
 cell-dropped : (q : Queue) (t : ℕ) → Dropped (cell-text q t)
-unfolding cell-text
+unfolding cell-text indented
 cell-dropped q t =
-    dropped-if (in-use (at (q .ages) t)) _
-    (named-dropped (bytes "table task") t (entry-text (at (q .times) t) (at (q .ages) t)) refl (entry-ends (at (q .times) t) (at (q .ages) t)))
+    let time = at (q .times) t in
+    let age = at (q .ages) t in
+    dropped-if (in-use age) (named " table task" t ++ entry-text time age) (entry-dropped " table task" t time age refl (λ l. refl))
 
 pub block-dropped : (m : Machine) (p : ℕ) (q : Queue) (e : Bool) → Dropped (block m p q e)
 unfolding block objects-text table-text
 block-dropped m p q e =
-    dropped-both (flags-text (m .started) e) _ (flags-dropped (m .started) e)
-    (dropped-both (tasks-text m) _ (tasks-dropped m)
-    (dropped-both (ready-text m) _ (ready-dropped m)
-    (dropped-both (delay-text m) _ (delay-dropped m)
-    (dropped-both (pending-text p) _ (pending-dropped p)
-    (dropped-both (each object-count (object-text m)) _ (dropped-each object-count (object-text m) (object-dropped m))
-    (dropped-both (registers-text q) _ (registers-dropped q) (dropped-each task-count (cell-text q) (cell-dropped q))))))))
+    let a = flags-text (m .started) e ++ tasks-text m in
+    let b = a ++ ready-text m in
+    let c = b ++ delay-text m in
+    let d = c ++ pending-text p in
+    let f = d ++ each object-count (object-text m) in
+    dropped-both (f ++ registers-text q) (each task-count (cell-text q))
+    (dropped-both f (registers-text q)
+    (dropped-both d (each object-count (object-text m))
+    (dropped-both c (pending-text p)
+    (dropped-both b (delay-text m)
+    (dropped-both a (ready-text m)
+    (dropped-both (flags-text (m .started) e) (tasks-text m) (flags-dropped (m .started) e) (tasks-dropped m)) (ready-dropped m)) (delay-dropped m))
+    (pending-dropped p)) (dropped-each object-count (object-text m) (object-dropped m))) (registers-dropped q))
+    (dropped-each task-count (cell-text q) (cell-dropped q))

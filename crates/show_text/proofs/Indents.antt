@@ -11,9 +11,9 @@ use Rattle.rules.specs.Line.{every}
 use Rattle.rules.proofs.Tests.{both-true}
 use Rattle.decimal.specs.Decimal.{digit, decimal, decimal-in}
 use Rattle.decimal.proofs.BothWays.{every-append, decimal-digits-only}
-use Rattle.text.specs.Words.{blank, line-end}
+use Rattle.text.specs.Words.{bytes, blank, line-end}
 use Rattle.text.specs.Lines.{ended, begins, last-piece, lines}
-use Rattle.text.specs.Printed.{field, walk-header}
+use Rattle.text.specs.Printed.{walk-header}
 use Rattle.show_text.specs.Block.{number, pair, slash, end, each}
 use Rattle.show_text.specs.Words.{indented, unindented-of, unindented}
 
@@ -81,26 +81,18 @@ line-over : (begun rest : List ℕ) → from begun (line-end ∷ rest) ≡ cond 
 unfolding ended begins unindented-of unindented lines
 line-over begun rest = refl
 
+-- a whole line, by whether it begins with a blank
+line-as : (l rest : List ℕ) (b : Bool) → Within l → indented l ≡ b → unindented ((l ++ end) ++ rest) ≡ cond b [] (l ++ end) ++ unindented rest
+unfolding unindented lines
+line-as l rest b w e = ap (from []) (append-assoc l end rest) ∙ goes-on l [] (line-end ∷ rest) w ∙ line-over l rest ∙ rw e
+
 -- ---- lines that are dropped
 
--- Behind a line that has begun with a blank: the rest of it.
-abbrev pub Ends : List ℕ → Type 0
-Ends xs = (l rest : List ℕ) → from (blank ∷ l) (xs ++ rest) ≡ unindented rest
-
--- Whole lines.
 abbrev pub Dropped : List ℕ → Type 0
 Dropped xs = (rest : List ℕ) → unindented (xs ++ rest) ≡ unindented rest
 
-pub ends-end : Ends end
-unfolding indented
-ends-end l rest = line-over (blank ∷ l) rest
-
-pub then-ends : (a b : List ℕ) → Within a → Ends b → Ends (a ++ b)
-then-ends a b w e l rest = rw (append-assoc a b rest, goes-on a (blank ∷ l) (b ++ rest) w) (e (l ++ a) rest)
-
-pub begun-dropped : (w b : List ℕ) → Within w → Ends b → Dropped (blank ∷ (w ++ b))
-unfolding ended begins unindented lines
-begun-dropped w b v e rest = then-ends w b v e [] rest
+pub line-dropped : (l : List ℕ) → Within l → indented l ≡ true → Dropped (l ++ end)
+line-dropped l w e rest = line-as l rest true w e
 
 pub dropped-none : Dropped []
 dropped-none rest = refl
@@ -119,46 +111,32 @@ dropped-each (suc n) f d = dropped-both (each n f) (f n) (dropped-each n f d) (d
 
 -- ---- lines that stay
 
--- Behind a line that has begun with another byte: the rest of it.
-abbrev pub Stays : List ℕ → Type 0
-Stays xs = (b : ℕ) (l rest : List ℕ) → eqb b blank ≡ false → from (b ∷ l) (xs ++ rest) ≡ (b ∷ l) ++ (xs ++ unindented rest)
-
--- A whole line.
 abbrev pub Kept : List ℕ → Type 0
 Kept xs = (rest : List ℕ) → unindented (xs ++ rest) ≡ xs ++ unindented rest
 
-stays-end : Stays end
+-- Whatever stands behind it, a line that begins so does not begin with a blank.
+abbrev pub Unindented : List ℕ → Type 0
+Unindented l = (b : List ℕ) → indented (l ++ b) ≡ false
+
+pub line-kept : (l : List ℕ) → Within l → Unindented l → Kept (l ++ end)
+line-kept l w u rest = line-as l rest false w (rw append-nil at (u []))
+
+pub unindented-more : (a b : List ℕ) → Unindented a → Unindented (a ++ b)
+unindented-more a b u c = ap indented (append-assoc a b c) ∙ u (b ++ c)
+
+digits-unindented : (w : List ℕ) → every digit w ≡ true → (length w ≡ 0 → ⊥) → Unindented w
 unfolding indented
-stays-end b l rest e = line-over (b ∷ l) rest ∙ rw (e, append-assoc l)
-
-pub then-stays : (a b : List ℕ) → Within a → Stays b → Stays (a ++ b)
-then-stays a b w s c l rest e =
-    rw (append-assoc a b rest, goes-on a (c ∷ l) (b ++ rest) w, s c (l ++ a) rest e, append-assoc l a, append-assoc a b (unindented rest))
-
-pub last-stays : (n : ℕ) → Stays (field n line-end)
-last-stays n = then-stays (decimal n) end (within-decimal n) stays-end
-
-pub more-stays : (n : ℕ) (b : List ℕ) → Stays b → Stays (field n blank ++ b)
-more-stays n b s = then-stays (field n blank) b (within-both (decimal n) (blank ∷ []) (within-decimal n) refl) s
-
--- a line that begins with a number
-first-kept : (w b : List ℕ) → every digit w ≡ true → (length w ≡ 0 → ⊥) → Stays b → Kept ((w ++ (blank ∷ [])) ++ b)
-unfolding unindented lines
-first-kept [] b e z s rest = absurd (z refl)
-first-kept (d ∷ w) b e z s rest =
-    let v = both-true (digit d) (every digit w) e in
-    let i = digit-inside d (v .0) in
-    one-byte d [] (((w ++ (blank ∷ [])) ++ b) ++ rest) (i .0)
-    ∙ then-stays (w ++ (blank ∷ [])) b (within-both w (blank ∷ []) (within-digits w (v .1)) refl) s d [] rest (i .1)
+digits-unindented [] e z b = absurd (z refl)
+digits-unindented (d ∷ w) e z b = digit-inside d (both-true (digit d) (every digit w) e .0) .1
 
 some-digit : (f n : ℕ) → length (decimal-in (suc f) n) ≡ 0 → ⊥
 unfolding decimal-in
 some-digit f n e = let w = simp length-append at e in omega (arith, w)
 
-pub number-kept : (n : ℕ) (b : List ℕ) → Stays b → Kept (field n blank ++ b)
+pub decimal-unindented : (n : ℕ) → Unindented (decimal n)
 unfolding decimal
-number-kept n b s = first-kept (decimal n) b (decimal-digits-only n) (some-digit 19 n) s
+decimal-unindented n = digits-unindented (decimal n) (decimal-digits-only n) (some-digit 19 n)
 
 pub header-kept : Kept walk-header
-unfolding walk-header ended begins indented unindented-of unindented lines
-header-kept rest = refl
+unfolding walk-header indented
+header-kept = line-kept (bytes "n op code run rel clock") refl (λ b. refl)

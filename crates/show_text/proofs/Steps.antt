@@ -1,7 +1,7 @@
 -- The whole state and the queue beside it, line by line: the state is the kernel's with what is pending, and both are the rules' and the chip's of the
 -- commands that the lines say. Assumes nothing.
 use mathlib.Core.Bool.{Bool, true, false, cond}
-use mathlib.Core.Path.{_≡_, refl, sym, ap, _∙_}
+use mathlib.Core.Path.{_≡_, refl, sym, ap, ap₂, _∙_}
 use mathlib.Core.List.{List, [], _∷_, _++_}
 use Prim.Native.Nat.{ℕ}
 use lib.Dec.{eqb}
@@ -9,6 +9,8 @@ use Rattle.rules.specs.Machine.{Command, Machine}
 use Rattle.rules_exceptions.specs.Exceptions.{next, run, sound}
 use Rattle.rules_exceptions.specs.Exceptions as X
 use Rattle.rules_exceptions.proofs.Theorems.{machine-moves, step-keeps-sound}
+use Rattle.kernel.specs.declared.Kernel.{Kernel}
+use Rattle.kernel.specs.declared.command.Answer as K
 use Rattle.kernel.specs.Public as P
 use Rattle.kernel_state.specs.declared.State.{State}
 use Rattle.kernel_state.specs.declared.Stepped.{Stepped}
@@ -21,7 +23,7 @@ use Rattle.queue_beside.specs.Beside.{followed}
 use Rattle.queue_beside.proofs.Theorems.{is-beside}
 use Rattle.text.specs.declared.Spoken.{Spoken}
 use Rattle.text.specs.Commands.{command-of}
-use Rattle.session.specs.CarriedOut.{asked}
+use Rattle.session.specs.CarriedOut.{asked, row-of}
 use Rattle.session.specs.CarriedOut as C
 use Rattle.show_text.specs.Show.{answer-to, state-behind, queue-behind, plain, row-for, state-after, queue-after}
 use Rattle.show_text.specs.Words.{commands}
@@ -48,7 +50,7 @@ module _ (s : State) (e : isSound s ≡ true) (l : Spoken) where
 
   pub same-row : (n : ℕ) → row-for s n l ≡ C.row-for (s .kernel) n l
   unfolding row-for
-  same-row n = rw (same-answer, same-tables)
+  same-row n = ap₂ (λ (a : K.Answer) (t : ℕ). row-of n l a t) same-answer (ap (λ (k : Kernel). k .clock) same-tables)
 
   pub still-sound : isSound (state-behind s l) ≡ true
   unfolding state-behind

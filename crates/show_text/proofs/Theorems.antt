@@ -122,7 +122,7 @@ number-is (l ∷ ls) n h = rw (lt-ltb n 18446744073709551615 (omega (arith, h)))
 
 number-next : (ls : List (List ℕ)) → suc (length ls) < 18446744073709551615 → following (number-after 0 ls) ≡ suc (length ls)
 number-next ls h =
-    let e = number-is ls 0 (omega (arith, h)) in
+    let e : number-after 0 ls ≡ length ls = number-is ls 0 (omega (arith, h)) ∙ omega arith in
     rw (e, lt-ltb (length ls) 18446744073709551615 (omega (arith, h))) (omega arith)
 
 wanted-one : (only : ℕ) (s : State) (q : Queue) (n : ℕ) (l : List ℕ) (ms : List (List ℕ)) → following n ≡ only → only ≢ 0 → only < 18446744073709551615
@@ -147,13 +147,19 @@ module _ (input : List ℕ) (ls : List (List ℕ)) (l : List ℕ) (ms : List (Li
 
   pub show-one-of-all : (behind : List ℕ) × (show-text 0 input ≡ walk-header ++ (shown 0 (encode fresh) none 0 ls ++ (entry ls l ++ behind)))
   unfolding show-text shown
-  show-one-of-all = (_, rw (e, shown-append 0 ls (l ∷ ms) (encode fresh) none 0, number-next ls h))
+  show-one-of-all = (
+    shown 0 (state-behind before (command-of l)) (queue-behind before (queue-after (encode fresh) none ls) (command-of l)) (following (number-after 0 ls)) ms,
+    rw (e, shown-append 0 ls (l ∷ ms) (encode fresh) none 0, number-next ls h),
+  )
+    where
+      before : State
+      before = state-after (encode fresh) ls
 
 -- Where the input has no line N, nothing but the header is printed.
 -- Rules out: a show that prints the last line instead. Leaves: the status, which says it (programs_show).
 pub show-none : (input : List ℕ) (only : ℕ) → length (lines input) < only → show-text only input ≡ walk-header
 unfolding show-text
-show-none input only h = rw (quiet-before only (lines input) (encode fresh) none 0 h) (append-nil walk-header)
+show-none input only h = rw (quiet-before only (lines input) (encode fresh) none 0 (omega (arith, h))) (append-nil walk-header)
 
 -- ## In pieces
 shown-kept : (only : ℕ) (ls : List (List ℕ)) (s : State) (q : Queue) (n : ℕ) → shown only s q n (map kept ls) ≡ shown only s q n ls
