@@ -86,8 +86,8 @@ numbers-text (t ∷ l) = number t ++ numbers-text l
 -- An object: its ceiling, who holds it and in which way (1 for a procedure or a function, 2 for an entry), and who
 -- waits on it.
 unfoldable pub object-line : ℕ → ℕ → ℕ → ℕ → List ℕ → List ℕ
-object-line o ceiling holder way waiters =
-    named " object" o ++ named " ceiling" ceiling ++ named " holder" holder ++ named " way" way
+object-line o top t way waiters =
+    named " object" o ++ named " ceiling" top ++ named " holder" t ++ named " way" way
     ++ bytes " waiters" ++ numbers-text waiters ++ end
 
 -- Every object that is declared.
