@@ -2,11 +2,13 @@
 use Prim.Native.Nat.{ℕ, _+_, _≤_}
 use native.Mathlib.Omega.{arith}
 use mathlib.Core.Bool.{Bool, true, false, cond, not, _&&_, _||_, true≢false}
-use mathlib.Core.Path.{_≡_, refl, sym, ap, _∙_}
+use mathlib.Core.Path.{_≡_, refl, sym, subst}
 use mathlib.Core.List.{List, [], _++_}
 use borrow.Author.Tests.{eq-eqb, ne-eqb}
 use lib.Dec.{eqb, leb}
 use lib.ListN.{length}
+use Rattle.rules.specs.Machine.{Command}
+use Rattle.kernel.specs.declared.command.Answer.{Answer}
 use Rattle.kernel.specs.Step.{with-clock}
 use Rattle.kernel.specs.Public.{answerOf, runningOf}
 use Rattle.kernel_state.specs.declared.State.{State}
@@ -31,31 +33,25 @@ module _ (s : State) (q : Queue) (n : ℕ) (l : Spoken) where
       let t = ne-eqb (l .code) 0 z in
       record { state = rw t; row = rw (e, t); queue = rw t; exception = rw t }
 
-  pub says-one : (left : State) (m : Moved) (row : Row) → l .code ≡ 0 → Moves s q (asked l) left m → row ≡ row-of n l (plain (m .answer)) (left .kernel .clock)
-      → Carries s q n l (record { row = row; queue = m .queue; exception = m .answer .exception }) left
-  unfolding state-behind queue-behind answer-to row-for
-  says-one left m row z w e =
-      let t = eq-eqb (l .code) 0 z in
-      record { state = rw t (w .0 .0); row = rw (e, t, w .0 .0, w .0 .1); queue = rw t (w .1); exception = rw (t, w .0 .1) }
+  module _ (left : State) (m : Moved) (row : Row) (c : Command) (a : Answer) (ec : c ≡ asked l) (em : Moves s q c left m) (ea : a ≡ plain (m .answer))
+      (er : row ≡ row-of n l a (left .kernel .clock)) where
+    pub says-one : l .code ≡ 0 → Carries s q n l (record { row = row; queue = m .queue; exception = m .answer .exception }) left
+    unfolding state-behind queue-behind answer-to row-for
+    says-one z =
+        let t = eq-eqb (l .code) 0 z in
+        let w : Moves s q (asked l) left m = subst (λ (x : Command). Moves s q x left m) ec em in
+        record { state = rw t (w .0 .0); row = rw (er, ea, t, w .0 .0, w .0 .1); queue = rw t (w .1); exception = rw (t, w .0 .1) }
 
   -- The block is of tables whose clock is the row's, which is theirs.
   abbrev clocked : State → ℕ → State
   clocked x t = both (with-clock (x .kernel) t) (x .pending)
 
   module _ (r : Done) (left : State) (c : Carries s q n l r left) where
-    number-same : r .row .n ≡ n
-    unfolding row-for
-    number-same = ap (λ (x : Row). x .n) (c .row)
-
-    clock-same : r .row .clock ≡ left .kernel .clock
-    unfolding row-for
-    clock-same = ap (λ (x : Row). x .clock) (c .row) ∙ ap (λ (x : State). x .kernel .clock) (sym (c .state))
-
     pub entry-same : (only : ℕ)
         → cond (wanted only (r .row .n)) (walk-line (r .row) ++ block-of (clocked left (r .row .clock)) (r .queue) (r .exception)) []
         ≡ cond (wanted only n) (line-text s q n l) []
-    unfolding line-text
-    entry-same only = rw (number-same, clock-same, c .row, c .queue, c .exception, ← c .state)
+    unfolding line-text row-for
+    entry-same only = rw (c .row, c .queue, c .exception, ← c .state)
 
 -- ---- whether a line is asked for
 

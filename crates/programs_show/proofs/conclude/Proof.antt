@@ -9,7 +9,9 @@ has-failed-requires : tie.Need-has-failed-requires
 has-failed-requires c κs = search needs
 
 returns : tie.Need-returns
-returns c = nothing-more (last-text (c .before .before .before .args .w)) _ (c .before .has-failed .result) (c .before .has-failed .ensures) (c .if1 .taken)
+returns c =
+    let a = c .before .before .before .args in
+    nothing-more (last-text (a .only) (a .w)) _ (c .before .has-failed .result) (c .before .has-failed .ensures) (c .if1 .taken)
 
 put-last-requires : tie.Need-put-last-requires
 put-last-requires c κs = search needs
@@ -30,7 +32,7 @@ returns-2 : tie.Need-returns-2
 returns-2 c =
     let f = c .before .before .before .before .before .before .before .has-failed in
     let put = c .before .before .before .before .put-last in
-    last-written (last-text _) _ (put .result) _ (c .write-whole .result) (f .result) (f .ensures)
+    last-written (last-text _ _) _ (put .result) _ (c .write-whole .result) (f .result) (f .ensures)
     (c .before .before .before .before .before .before .if1 .left) (put .ensures .0)
     (c .write-whole .ensures)
 

@@ -23,7 +23,8 @@ returns : tie.Need-returns
 returns c =
     let g = c .before .goes-on in
     let got = c .before .before .before .before .read-piece in
-    unturned show-after (text-for only) _ (c .before .before .before .before .before .before .before .before .args .was) (got .result) _ _ (got .ensures)
+    let a = c .before .before .before .before .before .before .before .before .args in
+    unturned show-after (text-for (a .only)) _ (a .was) (got .result) _ _ (got .ensures)
     (stopped (got .result .kind) (g .result) (g .ensures) (not-true (g .result) (c .if1 .taken)))
 
 brought-requires : tie.Need-brought-requires
@@ -77,9 +78,9 @@ returns-2 c =
     let on = gone-on (got .result .kind) (g .result) (g .ensures) (not-false (g .result)
     (c .before .before .before .before .before .before .before .before .before .before .before .if1 .left)) in
     let f = c .before .before .before .before .before .put-lines in
-    turned show-after (text-for only) _ _
-    (c .before .before .before .before .before .before .before .before .before .before .before .before .before .before .before .before .before .before
-    .before .args .was) (got .result) _ (n .result) (f .result .at) _ _ (got .ensures) on (n .ensures) (f .ensures .0) (f .ensures .1)
+    let a = c .before .before .before .before .before .before .before .before .before .before .before .before .before .before .before .before .before .before
+    .before .args in
+    turned show-after (text-for (a .only)) _ _ (a .was) (got .result) _ (n .result) (f .result .at) _ _ (got .ensures) on (n .ensures) (f .ensures .0) (f .ensures .1)
     (c .before .write-whole .ensures)
 
 pub one-piece-spec : {M : Type 1} → statement M

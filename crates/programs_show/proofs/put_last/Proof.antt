@@ -18,7 +18,7 @@ returns c =
     let a = c .before .before .before .before .before .args in
     let pre = c .before .before .before .before .before .pre in
     let f = c .before .before .finish in
-    (put-roomy show-room (last-text (a .w)) (a .out .now) _ _ (omega (arith, pre)) (f .ensures .0) (f .ensures .1) (f .ensures .2 .0), f .ensures .2)
+    (put-roomy show-room (last-text (a .only) (a .w)) (a .out .now) _ _ (omega (arith, pre)) (f .ensures .0) (f .ensures .1) (f .ensures .2 .0), f .ensures .2)
 
 pub put-last-spec : {M : Type 1} → statement M
 put-last-spec = tie.close (tie.spec finish-requires same-length returns)
