@@ -294,7 +294,7 @@ def hints():
 def stack():
     """Each program has enough with the stack that docs/PROGRAMS.md says. (Under the emulator the stack is the emulator's.)"""
     tape = (TAPES / '000.tape').read_bytes()
-    for program, given in () if ARM else (('walk', SCRIPT * 200), ('draw', FIRST.replace(b'25', b'2500') + SETUP), ('judge', tape)):
+    for program, given in () if ARM else (('walk', SCRIPT * 200), ('show', SCRIPT * 200), ('draw', FIRST.replace(b'25', b'2500') + SETUP), ('judge', tape)):
         whole = run(program, given=given)
         # the environment stands on the stack too
         small = run(given=given, command=str(ROOT / 'target' / 'run' / program), env={}, preexec_fn=lambda: resource.setrlimit(resource.RLIMIT_STACK, (STACK, STACK)))
@@ -487,10 +487,10 @@ def shows():
         hold(f'show {n}, byte by byte', ended, WALK_HEADER + part, 0)
         if ended.calls.count('read 1') != at or ended.calls.count('read 0') != (n == len(parts)):
             stop(f'show {n} reads {ended.calls.count("read 1")} bytes, and {at} are enough')
-    for n in (len(parts) + 1, 100, CLOCK):
+    for n in (len(parts) + 1, 100, CLOCK - 1):
         hold(f'show {n}', shown(str(n)), WALK_HEADER, 2, f'show: the input has no line {n}: it has {len(parts)} lines\n')
     hold('show 1 of nothing', shown('1', given=b''), WALK_HEADER, 2, 'show: the input has no line 1: it has 0 lines\n')
-    for word in ('0', '01', '-1', '+1', 'x', '', '1 ', str(CLOCK + 1), '9' * 5000):
+    for word in ('0', '01', '-1', '+1', 'x', '', '1 ', str(CLOCK), str(CLOCK + 1), '9' * 5000):
         hold(f'show {word[:30]!r}', shown(word), b'', 2, ("show: '", 'is no line'))
     hold('show with a word too many', shown('1', '2'), b'', 2, ('run: ', "'2' is a word too many"))
     program = [] if ARM else [str(ROOT / 'target' / 'run' / 'show')]

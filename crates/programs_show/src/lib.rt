@@ -132,8 +132,8 @@ fn conclude(w: Showing, only: u64, read: Went, out: &mut [u8]) -> Went
 fn work(fd: i32, only: u64) -> Done
     ensures { λ r. ⌜ Shown only (r .showing) (r .went) ⌝ }
 {
-    let mut piece = [0u8; 255];
-    let mut out = [0u8; 1048576];
+    let mut piece = [0u8; 15];
+    let mut out = [0u8; 65536];
     let head = put_header(&mut out);
     let begun = going();
     let headed = write_whole(begun, &out[..head]);
@@ -185,7 +185,7 @@ fn no_number(word: &[u8]) -> u8
     io::write_all(libc::STDERR_FILENO, word);
     refused(
         2,
-        b"' is no line: write the number of a line, from 1 to 18446744073709551615, in digits alone and without a 0 in front\n",
+        b"' is no line: write the number of a line, from 1 to 18446744073709551614, in digits alone and without a 0 in front\n",
     )
 }
 
@@ -203,7 +203,7 @@ pub fn run_asked() -> u8
     }
     let mut word = io::buffer();
     let n = os::arg(1, &mut word);
-    let only = decimal_read::number(&word[..n], u64::MAX);
+    let only = decimal_read::number(&word[..n], u64::MAX - 1);
     if !only.valid | (only.value == 0) {
         return no_number(&word[..n]);
     }
