@@ -1,0 +1,44 @@
+-- `show_print::put_entry` meets its contract: refused where there is no room, else put. Assumes nothing.
+use native.Mathlib.Omega.{arith}
+use borrow.Author.Needs.{needs}
+use Rattle.show_text.specs.Block.{show-room}
+use Rattle.show_print.proofs.Turns.{refused-within, put-within}
+use Rattle.show_print.proofs.put_entry.Statement.{statement}
+use Rattle.show_print.proofs.put_entry.Tie as tie
+
+returns : tie.Need-returns
+returns c = let a = c .before .before .args in refused-within show-room (a .out .now) (a .at) _ (omega arith)
+
+sub-if2 : tie.Need-sub-if2
+sub-if2 c = search needs
+
+returns-2 : tie.Need-returns-2
+returns-2 c = let a = c .before .before .before .args in refused-within show-room (a .out .now) (a .at) _ (omega arith)
+
+tables-of-requires : tie.Need-tables-of-requires
+tables-of-requires c κs = search needs
+
+put-both-requires : tie.Need-put-both-requires
+put-both-requires c κs = search needs
+
+same-length : tie.Need-same-length
+same-length c = search needs
+
+returns-3 : tie.Need-returns-3
+returns-3 c =
+    let put = c .before .before in
+    let tables = put .before .before in
+    let a = tables .before .before .before .before .args in
+    put-within show-room (a .out .now) (a .at) _ _ _ (omega arith) (rw (tables .tables-of .ensures) at (put .put-both .ensures))
+
+pub put-entry-spec : {M : Type 1} → statement M
+put-entry-spec =
+    tie.close
+    (tie.spec
+    returns
+    sub-if2
+    returns-2
+    tables-of-requires
+    put-both-requires
+    same-length
+    returns-3)
