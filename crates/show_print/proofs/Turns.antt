@@ -124,15 +124,15 @@ module _ (m : Machine) (o : ℕ) where
   pub same-holder : (m′ : Machine) (n : ℕ) → m .held ≡ m′ .held → holder-below n m o ≡ holder-below n m′ o
   unfolding holder-below
   same-holder m′ zero e = refl
-  same-holder m′ (suc n) e = rw (e, same-holder m′ n e)
+  same-holder m′ (suc n) e = rw (same-holder m′ n e, e)
+
+same-object : (k : Kernel) (o : ℕ) → object-text (seen [] (k .ceiling) (k .held) (k .way) (k .waiter)) o ≡ object-text (view k) o
+unfolding object-text view
+same-object k o = rw (same-holder (seen [] (k .ceiling) (k .held) (k .way) (k .waiter)) o (view k) task-count refl)
 
 pub same-objects : (k : Kernel) → each object-count (object-text (seen [] (k .ceiling) (k .held) (k .way) (k .waiter))) ≡ objects-text (view k)
 unfolding objects-text
-same-objects k = each-same object-count _ _ same
-  where
-    same : (o : ℕ) → object-text (seen [] (k .ceiling) (k .held) (k .way) (k .waiter)) o ≡ object-text (view k) o
-    unfolding object-text view
-    same o = rw (same-holder (seen [] (k .ceiling) (k .held) (k .way) (k .waiter)) o (view k) task-count refl)
+same-objects k = each-same object-count _ _ (same-object k)
 
 -- ---- all of it
 

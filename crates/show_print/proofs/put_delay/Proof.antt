@@ -39,16 +39,16 @@ time-at-requires : tie.Need-time-at-requires Inv-loop μ-loop
 time-at-requires c κs = search needs
 
 put-time-requires : tie.Need-put-time-requires Inv-loop μ-loop
-put-time-requires c κs = omega (arith, there _ (c .before .before .before .before .loop .i) (λ z. c .before .before .before .loop-test .taken (c .before .before .before .before .loop .inv .0 ∙ z)))
+put-time-requires c κs = omega (arith, there (c .before .before .before .before .before .before .before .before .before .before .before .before .before .before .before .args .k .delayed) (c .before .before .before .before .loop .i) (λ z. c .before .before .before .loop-test .taken (c .before .before .before .before .loop .inv .0 ∙ z)))
 
 add-i : tie.Need-add-i Inv-loop μ-loop
-add-i c = omega (arith, there _ (c .before .before .before .before .before .before .before .loop .i) (λ z. c .before .before .before .before .before .before .loop-test .taken (c .before .before .before .before .before .before .before .loop .inv .0 ∙ z)))
+add-i c = omega (arith, there (c .before .before .before .before .before .before .before .before .before .before .before .before .before .before .before .before .before .before .args .k .delayed) (c .before .before .before .before .before .before .before .loop .i) (λ z. c .before .before .before .before .before .before .loop-test .taken (c .before .before .before .before .before .before .before .loop .inv .0 ∙ z)))
 
 of-task-requires-2 : tie.Need-of-task-requires-2 Inv-loop μ-loop
 of-task-requires-2 c κs = search needs
 
 loop-less : tie.Need-loop-less Inv-loop μ-loop
-loop-less c = omega (arith, there _ (c .before .before .before .before .before .before .before .before .before .loop .i) (λ z. c .before .before .before .before .before .before .before .before .loop-test .taken (c .before .before .before .before .before .before .before .before .before .loop .inv .0 ∙ z)))
+loop-less c = omega (arith, there (c .before .before .before .before .before .before .before .before .before .before .before .before .before .before .before .before .before .before .before .before .args .k .delayed) (c .before .before .before .before .before .before .before .before .before .loop .i) (λ z. c .before .before .before .before .before .before .before .before .loop-test .taken (c .before .before .before .before .before .before .before .before .before .loop .inv .0 ∙ z)))
 
 loop-again : tie.Need-loop-again Inv-loop μ-loop
 loop-again c =
@@ -57,7 +57,7 @@ loop-again c =
     let lp = test .before .loop in
     let k = test .before .before .before .before .before .before .before .before .before .before .before .before .args .k in (
       c .of-task2 .ensures,
-      omega (arith, there _ (c .before .before .before .before .before .before .before .before .before .loop .i) (λ z. c .before .before .before .before .before .before .before .before .loop-test .taken (c .before .before .before .before .before .before .before .before .before .loop .inv .0 ∙ z))),
+      omega (arith, there (c .before .before .before .before .before .before .before .before .before .before .before .before .before .before .before .before .before .before .before .before .args .k .delayed) (c .before .before .before .before .before .before .before .before .before .loop .i) (λ z. c .before .before .before .before .before .before .before .before .loop-test .taken (c .before .before .before .before .before .before .before .before .before .loop .inv .0 ∙ z))),
       lp .inv .2,
       one-behind (lp .inv .3) (25 * (lp .i + 1)) (pair (lp .t) (at (k .until) (lp .t))) (delay-rest (k .until) (k .delayed) (lp .i + 1)) (omega arith)
           (delay-more (k .until) (k .delayed) (lp .i) (lp .t) (lp .inv .0) (test .loop-test .taken)) (rw (put .before .time-at .ensures) at (put .put-time .ensures)),

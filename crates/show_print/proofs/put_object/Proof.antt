@@ -20,7 +20,7 @@ returns : tie.Need-returns
 unfolding object-text
 returns c =
     let a = c .before .before .before .args in
-    rw (eq-eqb (at (a .t1) (a .o)) 0 (sym (c .before .of-object .ensures) ∙ c .if1 .taken)) (none 55 (a .out .now) (a .at))
+    rw (eq-eqb (at (a .ceiling) (a .o)) 0 (sym (c .before .of-object .ensures) ∙ c .if1 .taken)) (none 55 (a .out .now) (a .at))
 
 holder-of-requires : tie.Need-holder-of-requires
 holder-of-requires c κs = search needs
@@ -45,9 +45,9 @@ returns-2 c =
     let test = put .before .before .before .before .before .before in
     let top = test .before .of-object in
     let a = test .before .before .before .args in
-    let m = seen [] (a .t1) (a .t2) (a .t3) (a .t4) in
-    let held = holder .ensures ∙ same-holder (seen [] [] (a .t2) [] []) (a .o) m 32 refl in
-    rw (ne-eqb (at (a .t1) (a .o)) 0 (λ z. test .if1 .left (top .ensures ∙ z)), List·getD-map nobody-or (a .t4) (a .o) 0)
+    let m = seen [] (a .ceiling) (a .held) (a .t5) (a .waiter) in
+    let held = holder .ensures ∙ same-holder (seen [] [] (a .held) [] []) (a .o) m 32 refl in
+    rw (ne-eqb (at (a .ceiling) (a .o)) 0 (λ z. test .if1 .left (top .ensures ∙ z)), List·getD-map nobody-or (a .waiter) (a .o) 0)
     (rw (top .ensures, put .before .before .before .of-task .ensures, held, put .before .of-object2 .ensures) at (put .put-line .ensures))
 
 pub put-object-spec : {M : Type 1} → statement M

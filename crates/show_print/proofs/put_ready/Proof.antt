@@ -41,26 +41,26 @@ active-requires : tie.Need-active-requires Inv-loop μ-loop
 active-requires c κs = search needs
 
 put-level-requires : tie.Need-put-level-requires Inv-loop μ-loop
-put-level-requires c κs = omega (arith, there _ (c .before .before .before .before .before .loop .i) (λ z. c .before .before .before .before .loop-test .taken (c .before .before .before .before .before .loop .inv .0 ∙ z)))
+put-level-requires c κs = omega (arith, there (c .before .before .before .before .before .before .before .before .before .before .before .before .before .before .before .before .before .before .args .k .ready) (c .before .before .before .before .before .loop .i) (λ z. c .before .before .before .before .loop-test .taken (c .before .before .before .before .before .loop .inv .0 ∙ z)))
 
 add-i : tie.Need-add-i Inv-loop μ-loop
-add-i c = omega (arith, there _ (c .before .before .before .before .before .before .before .before .loop .i) (λ z. c .before .before .before .before .before .before .before .loop-test .taken (c .before .before .before .before .before .before .before .before .loop .inv .0 ∙ z)))
+add-i c = omega (arith, there (c .before .before .before .before .before .before .before .before .before .before .before .before .before .before .before .before .before .before .before .before .before .args .k .ready) (c .before .before .before .before .before .before .before .before .loop .i) (λ z. c .before .before .before .before .before .before .before .loop-test .taken (c .before .before .before .before .before .before .before .before .loop .inv .0 ∙ z)))
 
 of-task-requires-2 : tie.Need-of-task-requires-2 Inv-loop μ-loop
 of-task-requires-2 c κs = search needs
 
 loop-less : tie.Need-loop-less Inv-loop μ-loop
-loop-less c = omega (arith, there _ (c .before .before .before .before .before .before .before .before .before .before .loop .i) (λ z. c .before .before .before .before .before .before .before .before .before .loop-test .taken (c .before .before .before .before .before .before .before .before .before .before .loop .inv .0 ∙ z)))
+loop-less c = omega (arith, there (c .before .before .before .before .before .before .before .before .before .before .before .before .before .before .before .before .before .before .before .before .before .before .before .args .k .ready) (c .before .before .before .before .before .before .before .before .before .before .loop .i) (λ z. c .before .before .before .before .before .before .before .before .before .loop-test .taken (c .before .before .before .before .before .before .before .before .before .before .loop .inv .0 ∙ z)))
 
 loop-again : tie.Need-loop-again Inv-loop μ-loop
 loop-again c =
     let put = c .before .before .before .before in
     let test = put .before .before .before .before .before in
     let lp = test .before .loop in
-    let k = test .before .before .before .before .before .before .before .before .before .before .before .before .before .before .before .before .before .args .k in
+    let k = test .before .before .before .before .before .before .before .before .before .before .before .before .before .before .args .k in
     let m = seen (k .base) (k .ceiling) (k .held) [] [] in (
       c .of-task2 .ensures,
-      omega (arith, there _ (c .before .before .before .before .before .before .before .before .before .before .loop .i) (λ z. c .before .before .before .before .before .before .before .before .before .loop-test .taken (c .before .before .before .before .before .before .before .before .before .before .loop .inv .0 ∙ z))),
+      omega (arith, there (c .before .before .before .before .before .before .before .before .before .before .before .before .before .before .before .before .before .before .before .before .before .before .before .args .k .ready) (c .before .before .before .before .before .before .before .before .before .before .loop .i) (λ z. c .before .before .before .before .before .before .before .before .before .loop-test .taken (c .before .before .before .before .before .before .before .before .before .before .loop .inv .0 ∙ z))),
       lp .inv .2,
       one-behind (lp .inv .3) (8 * (lp .i + 1)) (pair (lp .t) (level (k .base) (k .ceiling) (k .held) (lp .t))) (ready-rest m (k .ready) (lp .i + 1)) (omega arith)
           (ready-more m (k .ready) (lp .i) (lp .t) (lp .inv .0) (test .loop-test .taken)) (rw (put .before .active .ensures) at (put .put-level .ensures)),
