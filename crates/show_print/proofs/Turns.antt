@@ -69,7 +69,7 @@ complete e s = rw (sym (append-nil (s .text)) ∙ ap (λ (l : List ℕ). s .text
 -- ---- a line in its table, from place i on
 
 module _ (l : List ℕ) (i : ℕ) where
-  pub there : at l i ≢ 0 → i < length l
+  there : at l i ≢ 0 → i < length l
   there h = ⊎-elim (λ (g : i < length l). g) (λ (g : length l ≤ i). absurd (h (List·getD-eq-default l 0 g))) (lt-or-ge i (length l))
 
   live-more : at l i ≢ 0 → live (drop i l) ≡ at l i ∷ live (drop (i + 1) l)
@@ -85,23 +85,34 @@ ready-rest m ready i = ready-list m (with-idle (drop i ready))
 abbrev pub delay-rest : List ℕ → List ℕ → ℕ → List ℕ
 delay-rest until delayed i = delay-list (timed until (live (drop i delayed)))
 
-module _ (m : Machine) (l : List ℕ) (i t : ℕ) (e : t ≡ at l i) where
-  pub ready-more : t ≢ 0 → ready-rest m l i ≡ pair t (active m t) ++ ready-rest m l (i + 1)
+-- the entry at place i of a table of 32 places
+pub record At (l : List ℕ) (i t : ℕ) : Type 0 where
+  pub here : t ≡ at l i
+  pub long : length l ≡ 32
+  pub counted : i ≤ 32
+
+module _ {l : List ℕ} {i t : ℕ} (s : At l i t) where
+  pub inside : t ≢ 0 → i < 32
+  inside h = let g = there l i (λ z. h (s .here ∙ z)) in omega arith
+
+  pub further : {t′ : ℕ} → t ≢ 0 → t′ ≡ at l (i + 1) → At l (i + 1) t′
+  further h e = let g = inside h in record { here = e; long = s .long; counted = omega arith }
+
+  pub ready-more : (m : Machine) → t ≢ 0 → ready-rest m l i ≡ pair t (active m t) ++ ready-rest m l (i + 1)
   unfolding ready-list
-  ready-more h = rw (idle-last (drop i l), idle-last (drop (i + 1) l), live-more l i (λ z. h (e ∙ z)), e)
+  ready-more m h = rw (idle-last (drop i l), idle-last (drop (i + 1) l), live-more l i (λ z. h (s .here ∙ z)), s .here)
 
-  pub ready-end : t ≡ 0 → ready-rest m l i ≡ pair 0 (active m 0) ++ []
+  pub ready-end : (m : Machine) → t ≡ 0 → ready-rest m l i ≡ pair 0 (active m 0) ++ []
   unfolding ready-list
-  ready-end z = rw (idle-last (drop i l), live-end l i (sym e ∙ z))
+  ready-end m z = rw (idle-last (drop i l), live-end l i (sym (s .here) ∙ z))
 
-module _ (until l : List ℕ) (i t : ℕ) (e : t ≡ at l i) where
-  pub delay-more : t ≢ 0 → delay-rest until l i ≡ pair t (at until t) ++ delay-rest until l (i + 1)
+  pub delay-more : (until : List ℕ) → t ≢ 0 → delay-rest until l i ≡ pair t (at until t) ++ delay-rest until l (i + 1)
   unfolding delay-list
-  delay-more h = rw (live-more l i (λ z. h (e ∙ z)), e)
+  delay-more until h = rw (live-more l i (λ z. h (s .here ∙ z)), s .here)
 
-  pub delay-end : t ≡ 0 → delay-rest until l i ≡ []
+  pub delay-end : (until : List ℕ) → t ≡ 0 → delay-rest until l i ≡ []
   unfolding delay-list
-  delay-end z = rw (live-end l i (sym e ∙ z))
+  delay-end until z = rw (live-end l i (sym (s .here) ∙ z))
 
 -- the tables that the loop sees are those of the kernel
 pub same-ready : (k : Kernel) (l : List ℕ) → ready-list (seen (k .base) (k .ceiling) (k .held) [] []) l ≡ ready-list (view k) l

@@ -1,25 +1,21 @@
 -- `show_print::put_ready` meets its contract. The invariant: what was put, and the rest of the line behind it, is the whole line. Assumes nothing.
-use Prim.Native.Nat.{_+_, _-_, _*_, _≤_, _<_}
+use Prim.Native.Nat.{_+_, _-_, _*_}
 use native.Mathlib.Omega.{arith}
-use mathlib.Core.Path.{_≡_, refl, _∙_}
+use mathlib.Core.Path.{refl}
 use mathlib.Core.List.{[]}
-use lib.ListN.{length}
 use borrow.Author.Needs.{needs}
-use Rattle.rules.specs.Line.{at}
 use Rattle.kernel_line.specs.Tables.{level}
 use Rattle.kernel.specs.View.{view}
 use Rattle.text_print.proofs.Puts.{then}
 use Rattle.show_text.specs.Block.{pair, ready-text}
 use Rattle.show_print.specs.Seen.{seen}
-use Rattle.show_print.proofs.Turns.{Begun, nothing, one-behind, complete, there, ready-rest, ready-more, ready-end, same-ready}
+use Rattle.show_print.proofs.Turns.{Begun, nothing, one-behind, complete, At, inside, further, ready-rest, ready-more, ready-end, same-ready}
 use Rattle.show_print.proofs.put_ready.Statement.{statement}
 use Rattle.show_print.proofs.put_ready.Tie as tie
 
 abbrev Inv-loop : tie.InvT-loop
 Inv-loop out₀ p base ceiling held ready next₀ i₀ t₀ t13 out next i t = 
-    (t ≡ at ready i)
-    × (i ≤ 32)
-    × (length ready ≡ 32)
+    At ready i t
     × Begun (8 * i) (ready-rest (seen base ceiling held [] []) ready 0) (ready-rest (seen base ceiling held [] []) ready i) out₀ next₀ out next
 
 abbrev μ-loop : tie.MeasureT-loop
@@ -35,35 +31,45 @@ of-task-requires : tie.Need-of-task-requires Inv-loop μ-loop
 of-task-requires c κs = search needs
 
 loop-holds : tie.Need-loop-holds Inv-loop μ-loop
-loop-holds c = (c .of-task .ensures, omega arith, search needs, nothing _ _ _ _)
+loop-holds c = (record { here = c .of-task .ensures; long = search needs; counted = omega arith }, nothing _ _ _ _)
 
 active-requires : tie.Need-active-requires Inv-loop μ-loop
 active-requires c κs = search needs
 
 put-level-requires : tie.Need-put-level-requires Inv-loop μ-loop
-put-level-requires c κs = omega (arith, there (c .before .before .before .before .before .before .before .before .before .before .before .before .before .before .before .before .before .before .args .k .ready) (c .before .before .before .before .before .loop .i) (λ z. c .before .before .before .before .loop-test .taken (c .before .before .before .before .before .loop .inv .0 ∙ z)))
+put-level-requires c κs =
+    let test = c .before .before .before .before in
+    let loop = test .before .loop in
+    let g = inside (loop .inv .0) (test .loop-test .taken) in
+    omega arith
 
 add-i : tie.Need-add-i Inv-loop μ-loop
-add-i c = omega (arith, there (c .before .before .before .before .before .before .before .before .before .before .before .before .before .before .before .before .before .before .before .before .before .args .k .ready) (c .before .before .before .before .before .before .before .before .loop .i) (λ z. c .before .before .before .before .before .before .before .loop-test .taken (c .before .before .before .before .before .before .before .before .loop .inv .0 ∙ z)))
+add-i c =
+    let test = c .before .before .before .before .before .before .before in
+    let loop = test .before .loop in
+    let g = inside (loop .inv .0) (test .loop-test .taken) in
+    omega arith
 
 of-task-requires-2 : tie.Need-of-task-requires-2 Inv-loop μ-loop
 of-task-requires-2 c κs = search needs
 
 loop-less : tie.Need-loop-less Inv-loop μ-loop
-loop-less c = omega (arith, there (c .before .before .before .before .before .before .before .before .before .before .before .before .before .before .before .before .before .before .before .before .before .before .before .args .k .ready) (c .before .before .before .before .before .before .before .before .before .before .loop .i) (λ z. c .before .before .before .before .before .before .before .before .before .loop-test .taken (c .before .before .before .before .before .before .before .before .before .before .loop .inv .0 ∙ z)))
+loop-less c =
+    let test = c .before .before .before .before .before .before .before .before .before in
+    let loop = test .before .loop in
+    let g = inside (loop .inv .0) (test .loop-test .taken) in
+    omega arith
 
 loop-again : tie.Need-loop-again Inv-loop μ-loop
 loop-again c =
     let put = c .before .before .before .before in
     let test = put .before .before .before .before .before in
-    let lp = test .before .loop in
+    let loop = test .before .loop in
     let k = test .before .before .before .before .before .before .before .before .before .before .before .before .before .before .args .k in
     let m = seen (k .base) (k .ceiling) (k .held) [] [] in (
-      c .of-task2 .ensures,
-      omega (arith, there (c .before .before .before .before .before .before .before .before .before .before .before .before .before .before .before .before .before .before .before .before .before .before .before .args .k .ready) (c .before .before .before .before .before .before .before .before .before .before .loop .i) (λ z. c .before .before .before .before .before .before .before .before .before .loop-test .taken (c .before .before .before .before .before .before .before .before .before .before .loop .inv .0 ∙ z))),
-      lp .inv .2,
-      one-behind (lp .inv .3) (8 * (lp .i + 1)) (pair (lp .t) (level (k .base) (k .ceiling) (k .held) (lp .t))) (ready-rest m (k .ready) (lp .i + 1)) (omega arith)
-          (ready-more m (k .ready) (lp .i) (lp .t) (lp .inv .0) (test .loop-test .taken)) (rw (put .before .active .ensures) at (put .put-level .ensures)),
+      further (loop .inv .0) (test .loop-test .taken) (c .of-task2 .ensures),
+      one-behind (loop .inv .1) (8 * (loop .i + 1)) (pair (loop .t) (level (k .base) (k .ceiling) (k .held) (loop .t))) (ready-rest m (k .ready) (loop .i + 1))
+          (omega arith) (ready-more (loop .inv .0) m (test .loop-test .taken)) (rw (put .before .active .ensures) at (put .put-level .ensures)),
     )
 
 active-requires-2 : tie.Need-active-requires-2 Inv-loop μ-loop
@@ -87,12 +93,12 @@ returns c =
     let end = c .before .before in
     let idle = end .before .before .before .before .before in
     let test = idle .before .before .before .before .before in
-    let lp = test .before .loop in
+    let loop = test .before .loop in
     let word = test .before .before .before .before .before .before in
     let k = word .before .before .before .before .before .before .before .before .args .k in
     let m = seen (k .base) (k .ceiling) (k .held) [] [] in
-    let line = one-behind (lp .inv .3) 264 (pair 0 (level (k .base) (k .ceiling) (k .held) 0)) [] (omega arith)
-    (ready-end m (k .ready) (lp .i) (lp .t) (lp .inv .0) (test .loop-test .left)) (rw (idle .before .active2 .ensures) at (idle .put-level2 .ensures)) in
+    let line = one-behind (loop .inv .1) 264 (pair 0 (level (k .base) (k .ceiling) (k .held) 0)) [] (omega arith)
+    (ready-end (loop .inv .0) m (test .loop-test .left)) (rw (idle .before .active2 .ensures) at (idle .put-level2 .ensures)) in
     then (then (word .put .ensures) (rw (same-ready k _) at (complete refl line))) (end .put2 .ensures)
 
 pub put-ready-spec : {M : Type 1} → statement M
