@@ -1,5 +1,5 @@
 #!/usr/bin/env python3
-"""Makes reads and writes of walk, draw, judge and salvage fail, and holds what they print, say and answer to docs/PROGRAMS.md and docs/SALVAGE.md.
+"""Makes reads and writes of walk, draw, judge, salvage and show fail, and holds what they print, say and answer to docs/PROGRAMS.md, docs/SALVAGE.md and docs/SHOW.md.
 
     python3 host/io.py      builds the programs by ./run where they are not built, runs the cases, and prints one line
 
@@ -26,6 +26,7 @@ LIMIT = 20
 WALK_HEADER = b'n op code run rel clock\n'
 DRAW_HEADER = b'n op a b value code run rel clock\n'
 SCRIPT = b'create 1 3\nstart\nadvance 100\n\nwake 1\nadvance 7'
+CLOCK = 2**64 - 1
 ROWS = [b'1 1 0 0 0 0\n', b'2 3 0 1 0 0\n', b'3 6 0 1 0 100\n', b'4 0 14 1 0 100\n', b'5 0 14 1 0 100\n', b'6 6 0 1 0 107\n']
 FIRST = b'seed 1 span 100 weights 10 10 10 10 10 10 10 10 count 25\n'
 SETUP = b'create 1 3\nwake\nstart\n'
@@ -200,7 +201,7 @@ def failed_writes():
 
 def descriptors():
     tape = TAPES / '000.tape'
-    for program, given, head in (('walk', SCRIPT, WALK_HEADER), ('draw', FIRST + SETUP, DRAW_HEADER), ('judge', tape.read_bytes(), b'')):
+    for program, given, head in (('walk', SCRIPT, WALK_HEADER), ('show', SCRIPT, WALK_HEADER), ('draw', FIRST + SETUP, DRAW_HEADER), ('judge', tape.read_bytes(), b'')):
         hold(f'{program} <&-', run(program, closed=[0]), head, 3, told(INPUT, errno.EBADF))
         hold(f'{program} >&-', run(program, given=given, closed=[1]), b'', 3, told(OUTPUT, errno.EBADF))
         hold(f'{program} <&- >&-', run(program, closed=[0, 1]), b'', 3, told(OUTPUT if head else INPUT, errno.EBADF))
@@ -238,19 +239,20 @@ def goes_away():
 def streams():
     """What is printed of a line is there before the next line is written."""
     global count
-    count += 1
-    walk = subprocess.Popen([RUN, 'walk'], stdin=subprocess.PIPE, stdout=subprocess.PIPE)
-    signal.signal(signal.SIGALRM, lambda *_: stop('walk over a pipe holds its output back'))
-    signal.alarm(LIMIT)
-    seen = [walk.stdout.readline()]
-    for line in SCRIPT.split(b'\n')[:3]:
-        walk.stdin.write(line + b'\n')
-        walk.stdin.flush()
-        seen.append(walk.stdout.readline())
-    signal.alarm(0)
-    walk.stdin.close()
-    if seen != [WALK_HEADER, *ROWS[:3]] or walk.wait(timeout=LIMIT) != 0:
-        stop(f'walk over a pipe printed {seen}')
+    for program, rows in (('walk', ROWS), ('show', entries(shown().out))):
+        count += 1
+        going = subprocess.Popen([RUN, program], stdin=subprocess.PIPE, stdout=subprocess.PIPE)
+        signal.signal(signal.SIGALRM, lambda *_: stop(f'{program} over a pipe holds its output back'))
+        signal.alarm(LIMIT)
+        seen = [going.stdout.readline()]
+        for line, row in zip(SCRIPT.split(b'\n')[:3], rows):
+            going.stdin.write(line + b'\n')
+            going.stdin.flush()
+            seen.append(going.stdout.read(len(row)))
+        signal.alarm(0)
+        going.stdin.close()
+        if seen != [WALK_HEADER, *rows[:3]] or going.wait(timeout=LIMIT) != 0:
+            stop(f'{program} over a pipe printed {seen}')
 
 
 def endless_first_line():
@@ -292,7 +294,7 @@ def hints():
 def stack():
     """Each program has enough with the stack that docs/PROGRAMS.md says. (Under the emulator the stack is the emulator's.)"""
     tape = (TAPES / '000.tape').read_bytes()
-    for program, given in () if ARM else (('walk', SCRIPT * 200), ('draw', FIRST.replace(b'25', b'2500') + SETUP), ('judge', tape)):
+    for program, given in () if ARM else (('walk', SCRIPT * 200), ('show', SCRIPT * 200), ('draw', FIRST.replace(b'25', b'2500') + SETUP), ('judge', tape)):
         whole = run(program, given=given)
         # the environment stands on the stack too
         small = run(given=given, command=str(ROOT / 'target' / 'run' / program), env={}, preexec_fn=lambda: resource.setrlimit(resource.RLIMIT_STACK, (STACK, STACK)))
@@ -449,6 +451,67 @@ def progress():
         os.close(seen)
 
 
+# ---- Show
+
+def shown(*words, given=SCRIPT, **more):
+    return run('show', '-', *words, given=given, **more)
+
+
+def entries(printed):
+    """What is printed for each line: its row, and the lines of the state below it."""
+    found = []
+    for line in printed[len(WALK_HEADER):].split(b'\n')[:-1]:
+        if line.startswith(b' '):
+            found[-1] += line + b'\n'
+        else:
+            found.append(line + b'\n')
+    return found
+
+
+def shows():
+    whole = shown()
+    hold('show', whole, whole.out, 0)
+    rows = b''.join(line + b'\n' for line in whole.out.split(b'\n')[:-1] if not line.startswith(b' '))
+    if rows != WALK_HEADER + b''.join(ROWS):
+        stop(f'show: its rows are {rows!r}, and not those of walk')
+    parts = entries(whole.out)
+    script = work / 'script'
+    script.write_bytes(SCRIPT)
+    hold('show FILE', run('show', str(script)), whole.out, 0)
+    hold('show without a word', run('show', given=SCRIPT), whole.out, 0)
+    for n, part in enumerate(parts, 1):
+        hold(f'show FILE {n}', run('show', str(script), str(n)), WALK_HEADER + part, 0)
+        # nothing is asked for behind line n; the last has no line end, and is there when the input has ended
+        at = len(SCRIPT) if n == len(parts) else sum(len(line) + 1 for line in SCRIPT.split(b'\n')[:n])
+        ended = shown(str(n), environment=faults('show', most=1))
+        hold(f'show {n}, byte by byte', ended, WALK_HEADER + part, 0)
+        if ended.calls.count('read 1') != at or ended.calls.count('read 0') != (n == len(parts)):
+            stop(f'show {n} reads {ended.calls.count("read 1")} bytes, and {at} are enough')
+    for n in (len(parts) + 1, 100, CLOCK - 1):
+        hold(f'show {n}', shown(str(n)), WALK_HEADER, 2, f'show: the input has no line {n}: it has {len(parts)} lines\n')
+    hold('show 1 of nothing', shown('1', given=b''), WALK_HEADER, 2, 'show: the input has no line 1: it has 0 lines\n')
+    for word in ('0', '01', '-1', '+1', 'x', '', '1 ', str(CLOCK), str(CLOCK + 1), '9' * 5000):
+        hold(f'show {word[:30]!r}', shown(word), b'', 2, ("show: '", 'is no line'))
+    hold('show with a word too many', shown('1', '2'), b'', 2, ('run: ', "'2' is a word too many"))
+    program = [] if ARM else [str(ROOT / 'target' / 'run' / 'show')]
+    for command in program:
+        hold('the program with a word too many', run('1', '2', command=command), b'', 2, ('show: a word too many',))
+    hold('show of a script with byte 13', shown('2', given=b'start\r\nstart\r\n'), shown('2', given=b'\n\n').out, 0, ('hint: ', '13'))
+
+
+def failed_shows():
+    whole = shown().out
+    parts = entries(whole)
+    for at in range(len(SCRIPT) + 1):
+        failed_read('show', SCRIPT, at, errno.EIO, WALK_HEADER + b''.join(parts[:whole_lines(SCRIPT, at)]))
+    unwritten('show', SCRIPT, whole, range(0, len(whole), 40))
+    for how in ({'turns': 1}, {'most': 1}, {'turns': 1, 'most': 1}, {'read': f'25 {errno.EINTR} 3'}, {'write': f'30 {errno.EINTR} 3'}):
+        hold(f'show: {how}', shown(environment=faults('show', **how)), whole, 0)
+    # a failure stands before a line that is not there
+    ended = shown('100', environment=faults('show', read=f'26 {errno.EIO} 1'))
+    hold('show 100: reading fails', ended, WALK_HEADER, 3, told(INPUT, errno.EIO))
+
+
 # ---- The launcher
 
 def bare():
@@ -517,10 +580,10 @@ def main():
     if not run('walk', environment=faults('walk')).calls:
         stop('host/fail.c is not loaded: its log stays empty')
     for part in (refusals, toolchain, walk_reads, draw_reads, judge_reads, interrupted, failed_writes, descriptors, goes_away, streams, endless_first_line, longest_first_line,
-                 hints, salvages, failed_salvages, refused_salvages, closed_salvages, killed_salvage, progress, stack):
+                 hints, shows, failed_shows, salvages, failed_salvages, refused_salvages, closed_salvages, killed_salvage, progress, stack):
         part()
     shutil.rmtree(work)
-    print(f'io: {count} runs of walk, draw, judge and salvage, whose reads and writes fail or do not: output, message and status as told')
+    print(f'io: {count} runs of walk, draw, judge, salvage and show, whose reads and writes fail or do not: output, message and status as told')
 
 
 main()

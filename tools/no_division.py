@@ -1,5 +1,5 @@
 #!/usr/bin/env python3
-"""Holds the printing of walk, draw, judge and salvage free of division and of remainder, which is division too.
+"""Holds the printing of walk, draw, judge, salvage and show free of division and of remainder, which is division too.
 
     python3 tools/no_division.py            the sources of the crates that print: no operator / or %, no decimal of the toolchain's
     python3 tools/no_division.py --built    the programs in target/run, as ./run builds them, as machine code: no division instruction
@@ -20,7 +20,8 @@ from braces import closing
 ROOT = pathlib.Path(__file__).resolve().parent.parent
 # From a number to its bytes, and whether there is room for them; in judge_record a record's number is found.
 PRINTING = ('decimal', 'decimal_read', 'decimal_print', 'text', 'text_word', 'text_command', 'text_first', 'text_split', 'text_print', 'session', 'session_walk',
-            'session_stage', 'session_draw', 'judge_record', 'judging', 'report', 'salvage_print', 'programs_hint', 'programs_walk', 'programs_draw', 'programs_judge', 'programs_salvage', 'programs', 'walk')
+            'session_stage', 'session_draw', 'show_text', 'show_print', 'session_show', 'judge_record', 'judging', 'report', 'salvage_print', 'programs_hint', 'programs_walk', 'programs_draw', 'programs_judge',
+            'programs_salvage', 'programs_show', 'programs', 'walk')
 
 
 def code(path):
@@ -81,7 +82,7 @@ def divisions(program):
 
 
 def built():
-    for program in ('walk', 'judge', 'salvage', 'draw'):
+    for program in ('walk', 'judge', 'salvage', 'show', 'draw'):
         count, found = divisions(program)
         drawn = [f for f in found if program == 'draw' and DRAWS.match(f[0]) and 'div' in f[1]]
         wrong = [f'{function}: {said}' for function, said in found if (function, said) not in drawn]

@@ -1,6 +1,7 @@
 -- What the program show prints of a state, for a person: the block under a row of walk. Each of its lines begins with a
 -- blank, as no row does; then comes a word, and numbers. 0 is nobody, and a line that lists nobody ends behind its word.
 use Prim.Native.Nat.{ℕ, zero, suc}
+use Prim.Native.String.{String}
 use mathlib.Core.Bool.{Bool, cond}
 use mathlib.Core.List.{List, [], _∷_, _++_}
 use lib.Dec.{eqb}
@@ -13,9 +14,13 @@ use Rattle.queue_chip.specs.Queue.{in-use}
 use Rattle.decimal.specs.Decimal.{decimal}
 use Rattle.text.specs.Words.{bytes, blank, line-end}
 
--- a number behind a blank; two of them with a slash between: a task, and what is said of it
+-- a number behind a blank; a word, and a number behind it; two numbers with a slash between: a task, and what is said
+-- of it
 abbrev pub number : ℕ → List ℕ
 number n = blank ∷ decimal n
+
+abbrev pub named : String → ℕ → List ℕ
+named word n = bytes word ++ number n
 
 abbrev pub slash : ℕ
 slash = 47
@@ -33,8 +38,7 @@ each (suc n) f = each n f ++ f n
 
 -- Whether the machine is started, and whether this answer shows the running task an exception: 1 or 0.
 unfoldable pub flags-text : Bool → Bool → List ℕ
-flags-text started exception =
-    bytes " started" ++ number (one-if started) ++ bytes " exception" ++ number (one-if exception) ++ end
+flags-text started exception = named " started" (one-if started) ++ named " exception" (one-if exception) ++ end
 
 -- Every task that is created, with its base.
 unfoldable pub task-text : Machine → ℕ → List ℕ
@@ -79,16 +83,18 @@ unfoldable pub numbers-text : List ℕ → List ℕ
 numbers-text [] = []
 numbers-text (t ∷ l) = number t ++ numbers-text l
 
--- Every object that is declared: its ceiling, who holds it and in which way (1 for a procedure or a function, 2 for an
--- entry), and who waits on it.
-unfoldable pub held-text : Machine → ℕ → List ℕ
-held-text m t = bytes " holder" ++ number t ++ bytes " way" ++ number (way-held m t)
+-- An object: its ceiling, who holds it and in which way (1 for a procedure or a function, 2 for an entry), and who
+-- waits on it.
+unfoldable pub object-line : ℕ → ℕ → ℕ → ℕ → List ℕ → List ℕ
+object-line o top t way waiters =
+    named " object" o ++ named " ceiling" top ++ named " holder" t ++ named " way" way
+    ++ bytes " waiters" ++ numbers-text waiters ++ end
 
+-- Every object that is declared.
 unfoldable pub object-text : Machine → ℕ → List ℕ
 object-text m o =
     cond (declared m o)
-    (bytes " object" ++ number o ++ bytes " ceiling" ++ number (at (m .ceiling) o) ++ held-text m (holder m o)
-    ++ bytes " waiters" ++ numbers-text (getD (m .queue) o []) ++ end)
+    (object-line o (at (m .ceiling) o) (holder m o) (way-held m (holder m o)) (getD (m .queue) o []))
     []
 
 unfoldable pub objects-text : Machine → List ℕ
@@ -96,16 +102,16 @@ objects-text m = each object-count (object-text m)
 
 -- The chip's queue. A time and an age,
 unfoldable pub entry-text : ℕ → ℕ → List ℕ
-entry-text time age = bytes " time" ++ number time ++ bytes " age" ++ number age ++ end
+entry-text time age = named " time" time ++ named " age" age ++ end
 
 -- of the task in the registers,
 unfoldable pub registers-text : Queue → List ℕ
-registers-text q = bytes " registers task" ++ number (q .task) ++ entry-text (q .time) (q .age)
+registers-text q = named " registers task" (q .task) ++ entry-text (q .time) (q .age)
 
 -- and of each cell of the table that is in use, by task number.
 unfoldable pub cell-text : Queue → ℕ → List ℕ
 cell-text q t =
-    cond (in-use (at (q .ages) t)) (bytes " table task" ++ number t ++ entry-text (at (q .times) t) (at (q .ages) t)) []
+    cond (in-use (at (q .ages) t)) (named " table task" t ++ entry-text (at (q .times) t) (at (q .ages) t)) []
 
 unfoldable pub table-text : Queue → List ℕ
 table-text q = each task-count (cell-text q)

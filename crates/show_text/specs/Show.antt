@@ -7,8 +7,6 @@ use mathlib.Core.List.{List, [], _∷_, _++_}
 use lib.Dec.{eqb, leb, ltb}
 use lib.ListN.{length}
 use lib.Seq.{sets}
-use Rattle.rules.specs.Machine.{runner}
-use Rattle.rules.specs.Kinds.{kind}
 use Rattle.rules_exceptions.specs.Exceptions.{fresh}
 use Rattle.kernel.specs.declared.command.Answer as K
 use Rattle.kernel.specs.Public.{runningOf}
@@ -17,7 +15,8 @@ use Rattle.kernel_state.specs.declared.State.{State}
 use Rattle.kernel_state.specs.declared.Answer.{Answer}
 use Rattle.kernel_state.specs.Public.{view, encode, answerOf, stepOf}
 use Rattle.queue_chip.specs.declared.Queue.{Queue}
-use Rattle.queue_chip.specs.Queue.{none, follow}
+use Rattle.queue_chip.specs.Queue.{none}
+use Rattle.queue_beside.specs.Beside.{followed}
 use Rattle.text.specs.declared.Held.{Held}
 use Rattle.text.specs.declared.Row.{Row}
 use Rattle.text.specs.declared.Spoken.{Spoken}
@@ -42,13 +41,9 @@ answer-to s l = cond (eqb (l .code) 0) (stepOf s (asked l) .answer) (answerOf (l
 unfoldable pub state-behind : State → Spoken → State
 state-behind s l = cond (eqb (l .code) 0) (stepOf s (asked l) .next) s
 
--- The chip's queue behind it: an accepted command moves the queue by its kind and value, and by the clock and the
--- runner before it; all else leaves it.
+-- the chip's queue behind it
 unfoldable pub queue-behind : State → Queue → Spoken → Queue
-queue-behind s q l =
-    cond (eqb (answer-to s l .code) 0)
-    (follow (kind (asked l)) (s .kernel .clock) (l .value) (runner (view s .machine)) q)
-    q
+queue-behind s q l = cond (eqb (l .code) 0) (followed s (asked l) q) q
 
 -- What of an answer stands in walk's row: all but the exception.
 abbrev pub plain : Answer → K.Answer
@@ -129,6 +124,18 @@ fed only w piece out =
 abbrev pub fed-out : ℕ → Showing → List ℕ → List ℕ → List ℕ
 fed-out only w piece out = cond (roomy piece out) (sets out 0 (text-for only w piece)) out
 
+-- The same of a show whose tables are lent: the show and the answer from their parts; and what is answered and left in
+-- the buffer.
+abbrev pub standing : State → Queue → Held → ℕ → Showing
+standing s q h n = record { state = s; queue = q; held = h; n = n }
+
+abbrev pub stood : Showing → ℕ → Fed
+stood w at = record { showing = w; at = at }
+
+abbrev pub Feeds : ℕ → Showing → List ℕ → List ℕ → Fed → List ℕ → Type 0
+Feeds only w piece out r left =
+    (r ≡ fed only w piece out) × (left ≡ fed-out only w piece out) × In-front (r .at) left
+
 -- At the end of the input: a last line without a line end counts.
 unfoldable pub last-text : ℕ → Showing → List ℕ
 last-text only w = shown only (w .state) (w .queue) (w .n) (last-piece (held-bytes (w .held)))
@@ -148,8 +155,9 @@ abbrev pub wants : ℕ → Showing → Bool
 wants only w = eqb only 0 || ltb (w .n) only
 
 -- What show reads at a time, and the room that it lends: a row and a block for each byte of a piece, and one more.
+-- (15 bytes, for the programs run on a stack of 128 KiB: host/io.py holds them to it. The room is 65,536 bytes.)
 abbrev pub show-piece : ℕ
-show-piece = 255
+show-piece = 15
 
 abbrev pub show-lent : ℕ
 show-lent = show-room * suc show-piece

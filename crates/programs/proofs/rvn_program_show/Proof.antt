@@ -1,0 +1,16 @@
+-- `programs::rvn_program_show` meets its contract: the status, as a wider number. Assumes nothing.
+use borrow.Author.Needs.{needs}
+use Rattle.programs.proofs.rvn_program_show.Statement.{statement}
+use Rattle.programs.proofs.rvn_program_show.Tie as tie
+
+run-requires : tie.Need-run-requires
+run-requires c κs = search needs
+
+cast-result : tie.Need-cast-result
+cast-result c = search needs
+
+returns : tie.Need-returns
+returns c = search needs
+
+pub rvn-program-show-spec : {M : Type 1} → statement M
+rvn-program-show-spec = tie.close (tie.spec run-requires cast-result returns)

@@ -1,0 +1,4 @@
+pub mod Carrying
+pub mod Feeding
+pub mod Closing
+pub mod Single
