@@ -43,11 +43,15 @@ def walk(first, last):
 
 # ---- The second program, and the files
 
-def run(program, *args, given=b''):
+def run(program, *args, given=b'', status=0):
+    """What a program of the second prints; it is to end with that status. Where that is not 0, what it says of it is thrown away."""
     path = SECOND / program
     if not path.exists():
         sys.exit(f'{NAME}: {path.relative_to(ROOT)} is not there; run second/build first')
-    return subprocess.run([path, *args], input=given, stdout=subprocess.PIPE, check=True).stdout
+    ended = subprocess.run([path, *args], input=given, stdout=subprocess.PIPE, stderr=subprocess.DEVNULL if status else None, check=False)
+    if ended.returncode != status:
+        sys.exit(f'{NAME}: {program} {" ".join(args)} ended with status {ended.returncode}, and not with {status}')
+    return ended.stdout
 
 
 def serve(doc, crate, made, what):

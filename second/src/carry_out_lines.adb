@@ -2,7 +2,10 @@ with Byte_IO;      use Byte_IO;
 with Command_Text; use Command_Text;
 
 procedure Carry_Out_Lines
-  (Kernel : in out State; Number : in out Ticks; Until_Start : Boolean) is
+  (Kernel      : in out State;
+   Number      : in out Ticks;
+   Until_Start : Boolean := False;
+   Last        : Ticks   := Ticks'Last) is
 
    --  "A line refused with 14 has op, operands and released 0, the running
    --  task and clock as they stand, and changes nothing."
@@ -17,14 +20,14 @@ procedure Carry_Out_Lines
       else
          Step (Kernel, C, Result);
       end if;
-      Report (Number, C, Result, Kernel.Clock);
+      Report (Number, C, Result, Kernel);
    end Carry_Out;
 
    Current : Line;
    Found   : Boolean;
 
 begin
-   while not (Until_Start and then Kernel.Started) loop
+   while not (Until_Start and then Kernel.Started) and then Number < Last loop
       Next_Line (Current, Found);
       exit when not Found;
       Number := Number + 1;

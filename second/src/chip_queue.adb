@@ -82,16 +82,22 @@ package body Chip_Queue is
       return (if Released = Idle then 0 else Count);
    end Wakes_Left;
 
-   function Age (Q : Queue) return Natural is
-      Years : Natural := (if Q.Len > 0 then 1 else 0);
+   --  Whether E came in later than Own, for the same time.  A free entry has
+   --  the stamp 0, and is later than none.
+   function Is_Younger (E, Own : Entered) return Boolean is
+     (E.Time = Own.Time and then E.Came > Own.Came);
+
+   function Age (Q : Queue; Own : Entered) return Natural is
+      Years : Natural := 0;
    begin
-      for E of Q.DQ_RAM loop
-         if Q.Len > 0
-           and then E.Time = Q.T.Time and then E.Came > Q.T.Came
-         then
-            Years := Years + 1;
-         end if;
-      end loop;
+      if Own /= Free then
+         Years := (if Is_Younger (Q.T, Own) then 2 else 1);
+         for E of Q.DQ_RAM loop
+            if Is_Younger (E, Own) then
+               Years := Years + 1;
+            end if;
+         end loop;
+      end if;
       return Years;
    end Age;
 

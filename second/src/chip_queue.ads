@@ -53,7 +53,8 @@ package Chip_Queue is
      return Natural;
 
    --  "An age among equal times: 1, and one more for each task that came later
-   --  for the same time; 0 for none" (READINGS-02, 7): that of the registers'.
-   function Age (Q : Queue) return Natural;
+   --  for the same time; 0 for none" (READINGS-02, 7): that of one of the
+   --  queue's own entries, of the registers or of the table.
+   function Age (Q : Queue; Own : Entered) return Natural;
 
 end Chip_Queue;

@@ -12,7 +12,7 @@ procedure Draw2 is
 
    --  Fields: n op a b value code run rel clock
    procedure Report
-     (Number : Ticks; C : Command; Result : Answer; Clock : Ticks) is
+     (Number : Ticks; C : Command; Result : Answer; Behind : State) is
    begin
       Put_Numbers ((Number,
                     Ticks (C.Op),
@@ -22,7 +22,7 @@ procedure Draw2 is
                     Ticks (Result.Number),
                     Ticks (Result.Running),
                     Ticks (Result.Released),
-                    Clock));
+                    Behind.Clock));
    end Report;
 
    --  "one line of zeros with the code"; its number is 0 too (READINGS 24)
@@ -47,7 +47,7 @@ procedure Draw2 is
          pragma Assert (Refused = Accepted);  --  all of it was tested before
          Step (Kernel, C, Result);
          Number := Number + 1;
-         Report (Number, C, Result, Kernel.Clock);
+         Report (Number, C, Result, Kernel);
       end loop;
    end Draw_All;
 

@@ -9,14 +9,14 @@ with Machine; use Machine;
 procedure Exceptions2 is
 
    procedure Report
-     (Number : Ticks; C : Command; Result : Answer; Clock : Ticks) is
+     (Number : Ticks; C : Command; Result : Answer; Behind : State) is
    begin
       Put_Numbers ((Number,
                     Ticks (C.Op),
                     Ticks (Result.Number),
                     Ticks (Result.Running),
                     Ticks (Result.Released),
-                    Clock,
+                    Behind.Clock,
                     Boolean'Pos (Result.Failed)));
    end Report;
 
@@ -27,6 +27,6 @@ procedure Exceptions2 is
 
 begin
    Put_Line ("n op code run rel clock exc");
-   Walk_Lines (Kernel, Number, Until_Start => False);
+   Walk_Lines (Kernel, Number);
    Flush;
 end Exceptions2;

@@ -98,8 +98,8 @@ procedure Queue2 is
       end if;
       Mix (R, Ticks (R.Chip.PidDQ));
       Mix (R, R.Chip.T.Time);
-      Mix (R, Ticks (Age (R.Chip)));
-      R.Oldest := Natural'Max (R.Oldest, Age (R.Chip));
+      Mix (R, Ticks (Age (R.Chip, R.Chip.T)));
+      R.Oldest := Natural'Max (R.Oldest, Age (R.Chip, R.Chip.T));
       case R.Chip.Len is
          when 0      => R.Empty := R.Empty + 1;
          when 31     => R.Full := R.Full + 1;
@@ -163,7 +163,7 @@ procedure Queue2 is
                     Ticks (R.Seed),
                     Ticks (R.Chip.PidDQ),
                     R.Chip.T.Time,
-                    Ticks (Age (R.Chip)),
+                    Ticks (Age (R.Chip, R.Chip.T)),
                     Ticks (R.Chip.Len),
                     Ticks (R.Total)));
    end Report;

@@ -444,8 +444,18 @@ procedure Unit_Test is
    begin
       Check (Name & ", task", Ticks (Q.PidDQ), Ticks (Pid));
       Check (Name & ", time", Q.T.Time, Time);
-      Check (Name & ", age", Ticks (Chip_Queue.Age (Q)), Age);
+      Check (Name & ", age", Ticks (Chip_Queue.Age (Q, Q.T)), Age);
    end Check_Registers;
+
+   procedure Check_Cell
+     (Q : Chip_Queue.Queue; Pid : Task_Id; Time, Age : Ticks)
+   is
+      Cell : constant Chip_Queue.Entered := Q.DQ_RAM (Pid);
+   begin
+      Check ("queue: time of" & Pid'Image, Cell.Time, Time);
+      Check ("queue: age of" & Pid'Image,
+             Ticks (Chip_Queue.Age (Q, Cell)), Age);
+   end Check_Cell;
 
    procedure Check_Left
      (Q : Chip_Queue.Queue; Clock : Ticks; Pid : Task_Id; Left : Ticks) is
@@ -480,6 +490,10 @@ procedure Unit_Test is
       Check_Registers ("queue: an equal", Q, 5, 20, 2);
       Chip_Queue.Delay_Until (Q, 31, 10);
       Check_Registers ("queue: a sooner", Q, 31, 10, 1);
+      Check_Cell (Q, 2, 20, 1);
+      Check_Cell (Q, 5, 20, 2);
+      Check_Cell (Q, 9, 30, 1);
+      Check_Cell (Q, 31, 0, 0);
       Check_Wake (Q, 9, 0);
       Check_Left (Q, 9, 31, 0);
       Check_Left (Q, 20, 31, 1);
@@ -490,6 +504,8 @@ procedure Unit_Test is
       Check_Wake (Q, 20, 31);
       Check_Registers ("queue: the older of two", Q, 5, 20, 2);
       Chip_Queue.Delay_Until (Q, 31, 30);
+      Check_Cell (Q, 9, 30, 2);
+      Check_Cell (Q, 31, 30, 1);
       Check_Left (Q, 30, 9, 3);
       Check_Left (Q, 30, 31, 4);
       Check_Wake (Q, 30, 5);

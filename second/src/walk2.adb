@@ -8,14 +8,14 @@ with Machine; use Machine;
 procedure Walk2 is
 
    procedure Report
-     (Number : Ticks; C : Command; Result : Answer; Clock : Ticks) is
+     (Number : Ticks; C : Command; Result : Answer; Behind : State) is
    begin
       Put_Numbers ((Number,
                     Ticks (C.Op),
                     Ticks (Result.Number),
                     Ticks (Result.Running),
                     Ticks (Result.Released),
-                    Clock));
+                    Behind.Clock));
    end Report;
 
    procedure Walk_Lines is new Carry_Out_Lines (Report);
@@ -25,6 +25,6 @@ procedure Walk2 is
 
 begin
    Put_Line ("n op code run rel clock");
-   Walk_Lines (Kernel, Number, Until_Start => False);
+   Walk_Lines (Kernel, Number);
    Flush;
 end Walk2;
