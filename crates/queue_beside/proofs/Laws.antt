@@ -1,7 +1,7 @@
 -- The queue behind a command, from what the parts of the code answer. Assumes nothing.
 use Prim.Native.Nat.{ℕ}
 use mathlib.Core.Bool.{cond}
-use mathlib.Core.Path.{_≡_, sym, ap, _∙_}
+use mathlib.Core.Path.{_≡_, sym}
 use lib.Dec.{eqb}
 use borrow.Author.Tests.{eq-eqb, ne-eqb}
 use Rattle.rules.specs.Machine.{Command, runner}
@@ -16,7 +16,6 @@ use Rattle.kernel_state.specs.declared.Answer.{Answer}
 use Rattle.kernel_state.specs.Public.{view, stepOf, ends}
 use Rattle.queue_chip.specs.declared.Queue.{Queue}
 use Rattle.queue_chip.specs.Queue.{follow}
-use Rattle.queue_beside.specs.declared.Moved.{Moved}
 use Rattle.queue_beside.specs.Beside.{followed, Moves}
 
 -- by the code that was answered

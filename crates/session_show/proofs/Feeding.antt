@@ -11,7 +11,6 @@ use Rattle.queue_chip.specs.declared.Queue.{Queue}
 use Rattle.text.specs.declared.Held.{Held}
 use Rattle.text.specs.declared.Spoken.{Spoken}
 use Rattle.text.specs.declared.Cut.{Cut}
-use Rattle.decimal.specs.Buffer.{contents-after, place-after, In-front}
 use Rattle.text.specs.Commands.{command-of}
 use Rattle.text.specs.Lines.{cut-of, cuts, holds-after, held-bytes, nothing-held}
 use Rattle.decimal.proofs.Stores.{in-front}
@@ -20,11 +19,10 @@ use Rattle.session.proofs.Cuts.{cuts-whole, holds-whole}
 use Rattle.session.proofs.Filling.{Filling, filling-first, filling-on, filled-at, filled-out, filled-front}
 use Rattle.session_walk_text.specs.Walk.{number-after}
 use Rattle.show_text.specs.declared.Showing.{Showing}
-use Rattle.show_text.specs.Show.{state-behind, queue-behind, line-text, wanted, shown, state-after, queue-after, text-for, show-after, fed, fed-out}
+use Rattle.show_text.specs.Show.{state-behind, queue-behind, line-text, wanted, shown, state-after, queue-after, text-for, show-after}
 use Rattle.show_text.specs.Show.{standing, stood, Feeds}
 use Rattle.session_show.specs.declared.Done.{Done}
 use Rattle.session_show.specs.Carried.{Carries, Puts}
-use Rattle.session_show.proofs.Carrying.{entry-same}
 
 made : {s s′ : State} {q q′ : Queue} {h h′ : Held} {n n′ : ℕ} → s ≡ s′ → q ≡ q′ → h ≡ h′ → n ≡ n′
     → _≡_ {A = Showing} (standing s q h n) (standing s′ q′ h′ n′)
@@ -65,7 +63,8 @@ module _ (only : ℕ) (w : Showing) (p out₀ : List ℕ) where
           let f = i .filling in
           let room : at + 4096 ≤ length out = omega (arith, f .spare, o) in
           record {
-            filling = filling-on 4096 out₀ (text-for only w p) text _ at left out (rw z at f) (short-put out text at at′ out′ room put) o at′ out′ (put .0) (put .1);
+            filling =
+                filling-on 4096 out₀ (text-for only w p) text _ at left out (rw z at f) (short-put out text at at′ out′ room put) o at′ out′ (put .0) (put .1);
             state = rw z at (i .state);
             queue = rw z at (i .queue);
             number = rw z at (i .number);
@@ -86,7 +85,7 @@ module _ (only : ℕ) (w : Showing) (p out₀ : List ℕ) where
           let f : Filling 4096 out₀ (text-for only w p) [] at left out = rw z at (i .filling) in
           let a = filled-at 4096 out₀ (text-for only w p) at left out f in
           let r : standing s q h′ n ≡ show-after w p =
-              made (rw z at (i .state)) (rw z at (i .queue)) (sym eh ∙ i .held) (rw z at (i .number)) in
+          made (rw z at (i .state)) (rw z at (i .queue)) (sym eh ∙ i .held) (rw z at (i .number)) in
           let l = le-leb (4096 * suc (length p)) (length out₀) o in
           (rw (l, ← a, ← r), rw l (filled-out 4096 out₀ (text-for only w p) at left out f), filled-front 4096 out₀ (text-for only w p) at left out f)
 

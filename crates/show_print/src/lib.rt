@@ -378,7 +378,15 @@ fn put_row(out: &mut [u8], at: usize, row: Row) -> usize
     put_walk_line(out, at, row)
 }
 
-fn put_both(out: &mut [u8], at: usize, row: Row, k: Kernel, pending: u32, q: Queue, exception: bool) -> usize
+fn put_both(
+    out: &mut [u8],
+    at: usize,
+    row: Row,
+    k: Kernel,
+    pending: u32,
+    q: Queue,
+    exception: bool,
+) -> usize
     requires { ⌜ at + show-room ≤ length (now out) ⌝ }
     ensures { λ r. ⌜ Put show-room (now (out .entry)) at (walk-line row ++ block (view k) pending q exception)
         (now (out .exit)) r ⌝ }
@@ -456,6 +464,17 @@ pub fn put_entry(
     if out.len() - 4096 < at {
         return at;
     }
-    let k = tables_of(base, ready, delayed, held, way, until, ceiling, waiter, row.clock, started);
+    let k = tables_of(
+        base,
+        ready,
+        delayed,
+        held,
+        way,
+        until,
+        ceiling,
+        waiter,
+        row.clock,
+        started,
+    );
     put_both(out, at, row, k, pending, q, exception)
 }

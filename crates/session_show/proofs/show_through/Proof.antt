@@ -86,7 +86,9 @@ put-wanted-requires c κs = search needs
 
 -- the number of the line, from behind what is put for it; and the test of the loop before that
 abbrev numbered : tie.After-slice-known2 Inv-loop μ-loop → tie.After-following Inv-loop μ-loop
-numbered c = c .before .before .before .before .before .before .before .before .before .before .before .before .before .before .before .before .before .before .before .before .before .before .before .before .before .before
+numbered c =
+    let told = c .before .before .before .before .before .before .before .before .before .before .before .before .before .before in
+    told .before .before .before .before .before .before .before .before .before .before .before .before
 
 abbrev tested : tie.After-slice-known2 Inv-loop μ-loop → tie.In-loop Inv-loop μ-loop
 tested c = numbered c .before .before .before .before .before
@@ -111,8 +113,8 @@ loop-again c =
     let w = next-whole (lp .kept) p (lp .from) (x .result) (x .ensures) (not-false (x .result .whole) (number .before .if2 .left)) in (
       still-again (s .args .only) (begun-with s) p (s .args .out .now) state (lp .queue) (lp .kept) (lp .n) (lp .from) (lp .at) (lp .turns) (lp .out)
           (lp .inv .0) (cut-of (lp .kept) p (lp .from)) refl (number .following .result) (put .result) (x .result .next) (x .result .spoken)
-          (told .carry-out .result) _ (put .last .0) (x .result .held) _ (w .next) (number .following .ensures) (w .command) (told .carry-out .ensures) (w .held)
-          (put .ensures)
+          (told .carry-out .result) _ (put .last .0) (x .result .held) _ (w .next) (number .following .ensures) (w .command) (told .carry-out .ensures)
+          (w .held) (put .ensures)
           (entry-same state (lp .queue) (number .following .result) (x .result .spoken) (told .carry-out .result) _ (told .carry-out .ensures) (s .args .only))
           (test .loop-test .taken) (w .whole),
       lp .inv .1,
