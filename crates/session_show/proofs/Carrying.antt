@@ -1,5 +1,5 @@
 -- A line carried out by both models, and what is put for it, are what the definitions say. Assumes nothing.
-use Prim.Native.Nat.{ℕ, _+_, _≤_}
+use Prim.Native.Nat.{ℕ, _+_}
 use native.Mathlib.Omega.{arith}
 use mathlib.Core.Bool.{Bool, true, false, cond, not, _&&_, _||_, true≢false}
 use mathlib.Core.Path.{_≡_, refl, sym}

@@ -1,8 +1,7 @@
 -- A line carried out by both models, and what is put for it: the code's own.
 use Prim.Native.Nat.{ℕ, _+_, _≤_}
-use mathlib.Core.Bool.{cond}
 use mathlib.Core.Path.{_≡_}
-use mathlib.Core.List.{List, [], _++_}
+use mathlib.Core.List.{List}
 use Rattle.kernel_state.specs.declared.State.{State}
 use Rattle.queue_chip.specs.declared.Queue.{Queue}
 use Rattle.text.specs.declared.Spoken.{Spoken}

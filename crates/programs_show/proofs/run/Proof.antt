@@ -31,14 +31,16 @@ returns-2 : tie.Need-returns-2
 returns-2 c =
     let seen = c .before .before .lines-seen in
     let w = c .before .before .before .before .before .before .work in
-    status-so (c .before .before .before .before .before .before .before .args .only) (w .result .showing) (w .result .went) (seen .result) (c .no-line .result) true (w .ensures) (seen .ensures) (c .before .if2 .taken)
+    let only = c .before .before .before .before .before .before .before .args .only in
+    status-so only (w .result .showing) (w .result .went) (seen .result) (c .no-line .result) true (w .ensures) (seen .ensures) (c .before .if2 .taken)
     (c .no-line .ensures)
 
 returns-3 : tie.Need-returns-3
 returns-3 c =
     let seen = c .before .lines-seen in
     let w = c .before .before .before .before .before .work in
-    status-so (c .before .before .before .before .before .before .args .only) (w .result .showing) (w .result .went) (seen .result) 0 false (w .ensures) (seen .ensures) (c .if2 .left) refl
+    let only = c .before .before .before .before .before .before .args .only in
+    status-so only (w .result .showing) (w .result .went) (seen .result) 0 false (w .ensures) (seen .ensures) (c .if2 .left) refl
 
 pub run-spec : {M : Type 1} → statement M
 run-spec =
