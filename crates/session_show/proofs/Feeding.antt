@@ -88,7 +88,7 @@ module _ (only : ℕ) (w : Showing) (p out₀ : List ℕ) where
           let f : Filling 4096 out₀ (text-for only w p) [] at left out = rw z at (i .filling) in
           let a = filled-at 4096 out₀ (text-for only w p) at left out f in
           let r : standing s q h′ n ≡ show-after w p =
-              made (rw z at (i .state)) (rw z at (i .queue)) (sym eh ∙ i .held) (rw z at (i .number)) in
+          made (rw z at (i .state)) (rw z at (i .queue)) (sym eh ∙ i .held) (rw z at (i .number)) in
           let l = le-leb (4096 * suc (length p)) (length out₀) o in
           (rw (l, ← a, ← r), rw l (filled-out 4096 out₀ (text-for only w p) at left out f), filled-front 4096 out₀ (text-for only w p) at left out f)
 

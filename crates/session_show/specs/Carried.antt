@@ -1,7 +1,8 @@
 -- A line carried out by both models, and what is put for it: the code's own.
 use Prim.Native.Nat.{ℕ, _+_, _≤_}
+use mathlib.Core.Bool.{cond}
 use mathlib.Core.Path.{_≡_}
-use mathlib.Core.List.{List}
+use mathlib.Core.List.{List, [], _++_}
 use Rattle.kernel_state.specs.declared.State.{State}
 use Rattle.queue_chip.specs.declared.Queue.{Queue}
 use Rattle.text.specs.declared.Spoken.{Spoken}

@@ -377,7 +377,15 @@ fn put_row(out: &mut [u8], at: usize, row: Row) -> usize
     put_walk_line(out, at, row)
 }
 
-fn put_both(out: &mut [u8], at: usize, row: Row, k: Kernel, pending: u32, q: Queue, exception: bool) -> usize
+fn put_both(
+    out: &mut [u8],
+    at: usize,
+    row: Row,
+    k: Kernel,
+    pending: u32,
+    q: Queue,
+    exception: bool,
+) -> usize
     requires { ⌜ at + show-room ≤ length (now out) ⌝ }
     ensures { λ r. ⌜ Put show-room (now (out .entry)) at (walk-line row ++ block (view k) pending q exception)
         (now (out .exit)) r ⌝ }
@@ -388,7 +396,15 @@ fn put_both(out: &mut [u8], at: usize, row: Row, k: Kernel, pending: u32, q: Que
 
 // The row, and the block of these tables, of what is pending and of the queue, put at a place where at least 4096 bytes
 // are left, and the next place; else nothing, and the same place.
-pub fn put_entry(out: &mut [u8], at: usize, row: Row, k: Kernel, pending: u32, q: Queue, exception: bool) -> usize
+pub fn put_entry(
+    out: &mut [u8],
+    at: usize,
+    row: Row,
+    k: Kernel,
+    pending: u32,
+    q: Queue,
+    exception: bool,
+) -> usize
     ensures { λ r. let text = walk-line row ++ block (view k) pending q exception in
         ⌜ (r ≡ place-after show-room (now (out .entry)) at text)
         × (now (out .exit) ≡ contents-after show-room (now (out .entry)) at text) × (r ≤ at + show-room) ⌝ }

@@ -31,7 +31,7 @@ same-length c = search needs
 returns-3 : tie.Need-returns-3
 returns-3 c =
     let put = c .before .before in
-    let a = put .before .before .before .before .args in
+    let a = put .before .before .before .before .before .args in
     put-within show-room (a .out .now) (a .at) _ _ _ (omega arith) (put .put-both .ensures)
 
 pub put-entry-spec : {M : Type 1} → statement M
