@@ -46,7 +46,8 @@ module _ (only : ℕ) (t : Showing) (headed read went : Went) (h : Took (length 
   )
     where
       go : Sent → (2 ≤ went .kind)
-          ⊎ ((went .sent ≡ length (walk-header ++ printed only at-first (l .pieces))) × Over (wants only) (behind show-after at-first (l .pieces)) (l .pieces) went)
+          ⊎ ((went .sent ≡ length (walk-header ++ printed only at-first (l .pieces)))
+          × Over (wants only) (behind show-after at-first (l .pieces)) (l .pieces) went)
       go (inl o) = inl o
       go (inr (e, o)) = inr (e ∙ sym (all-printed only (l .pieces) (l .state)), o)
 
@@ -54,8 +55,11 @@ module _ (only : ℕ) (t : Showing) (headed read went : Went) (h : Took (length 
 pub status-so : (only : ℕ) (w : Showing) (went : Went) (seen r : ℕ) (b : Bool) → Shown only w went → seen ≡ lines-seen w → not (eqb only 0) && ltb seen only ≡ b
     → r ≡ cond b 2 0 → Shown-or-failed only r
 status-so only w went seen r b s e t f =
-    inl (s .0, f ∙ ap (λ (x : Bool). cond x 2 0)
-    (sym t ∙ ap (λ (n : ℕ). not (eqb only 0) && ltb n only) e ∙ ap (λ (v : Showing). missing only v) (s .2)))
+    inl (
+      s .0,
+      f ∙ ap (λ (x : Bool). cond x 2 0)
+          (sym t ∙ ap (λ (n : ℕ). not (eqb only 0) && ltb n only) e ∙ ap (λ (v : Showing). missing only v) (s .2)),
+    )
 
 pub answers : (only r : ℕ) → Shown-or-failed only r → Done-refused-failed r
 answers only r (inl (ps, e)) = go (missing only (behind show-after at-first ps)) e

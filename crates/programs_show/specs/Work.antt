@@ -18,7 +18,8 @@ abbrev pub Shown : ℕ → Showing → Went → Type 0
 Shown only w went =
     (ps : List (List ℕ)) × None-empty ps × (w ≡ behind show-after at-first ps)
     × ((2 ≤ went .kind)
-    ⊎ ((went .sent ≡ length (walk-header ++ printed only at-first ps)) × Over (wants only) (behind show-after at-first ps) ps went))
+    ⊎ ((went .sent ≡ length (walk-header ++ printed only at-first ps))
+    × Over (wants only) (behind show-after at-first ps) ps went))
 
 -- One line is asked for, and the input has fewer.
 abbrev pub missing : ℕ → Showing → Bool

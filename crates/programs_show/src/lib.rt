@@ -7,7 +7,7 @@ ghost use Rattle.text.specs.Printed.{walk-header};
 ghost use Rattle.decimal.specs.Buffer.{In-front};
 ghost use Rattle.show_text.specs.Show.{at-first, text-for, show-after, last-text, wants, show-piece, show-lent};
 ghost use Rattle.programs_flow.specs.Loops as loops;
-ghost use Rattle.programs_show.specs.Work.{Shown, missing, Shown-or-failed, Done-refused-failed};
+ghost use Rattle.programs_show.specs.Work.{Shown, Shown-or-failed, Done-refused-failed};
 use decimal_print::put_decimal;
 use programs_flow::Went;
 use programs_flow::brought;
@@ -67,7 +67,15 @@ fn put_last(w: Showing, only: u64, out: &mut [u8]) -> usize
 }
 
 // One read, what is printed for it, one write.
-fn one_piece(fd: i32, only: u64, w: Showing, was: Went, given: bool, piece: &mut [u8], out: &mut [u8]) -> Turn
+fn one_piece(
+    fd: i32,
+    only: u64,
+    w: Showing,
+    was: Went,
+    given: bool,
+    piece: &mut [u8],
+    out: &mut [u8],
+) -> Turn
     requires { ⌜ (length (now piece) ≤ show-piece) × (show-lent ≡ length (now out)) ⌝ }
     ensures { λ r. ⌜ loops.Turned show-after (text-for only) w (r .showing) was (r .went) (now (piece .exit))
         (now (out .exit)) ⌝ }
@@ -185,7 +193,7 @@ fn no_number(word: &[u8]) -> u8
     io::write_all(libc::STDERR_FILENO, word);
     refused(
         2,
-        b"' is no line: write the number of a line, from 1 to 18446744073709551614, in digits alone and without a 0 in front\n",
+        b"' is no line: write its number, 1 to 18446744073709551614, in digits alone and without a 0 in front\n",
     )
 }
 
@@ -199,7 +207,10 @@ pub fn run_asked() -> u8
         return run(libc::STDIN_FILENO, 0);
     }
     if 2 < words {
-        return refused(2, b"show: a word too many: write at most one, the number of the line that is to be shown\n");
+        return refused(
+            2,
+            b"show: a word too many: write at most one, the number of the line that is to be shown\n",
+        );
     }
     let mut word = io::buffer();
     let n = os::arg(1, &mut word);

@@ -12,12 +12,11 @@ use Rattle.kernel_line.specs.declared.TaskID.{TaskID}
 use Rattle.kernel_ready.specs.Ready.{runner-in, task}
 use Rattle.kernel_ready.proofs.Laws.{front-idle}
 use Rattle.kernel_state.specs.declared.State.{State}
-use Rattle.kernel_state.specs.declared.Answer.{Answer}
-use Rattle.kernel_state.specs.Public.{view, stepOf, ends}
+use Rattle.kernel_state.specs.declared.Stepped.{Stepped}
+use Rattle.kernel_state.specs.Public.{view, stepOf}
 use Rattle.queue_chip.specs.declared.Queue.{Queue}
 use Rattle.queue_chip.specs.Queue.{follow}
-use Rattle.queue_beside.specs.declared.Moved.{Moved}
-use Rattle.queue_beside.specs.Beside.{followed, Moves}
+use Rattle.queue_beside.specs.Beside.{followed, movedOf}
 
 -- by the code that was answered
 pub refused-stays : (code now value runner : ℕ) (k : Kind) (q : Queue) → (code ≡ 0 → ⊥) → q ≡ cond (eqb code 0) (follow k now value runner q) q
@@ -33,9 +32,9 @@ unfolding view K.view
 ran s = sym (front-idle (s .kernel .ready))
 
 -- the step and the queue together
-module _ (s left : State) (q : Queue) (c : Command) (a : Answer) (r : TaskID) (n : Queue) (ea : ends left a (stepOf s c))
+module _ (s : State) (q : Queue) (c : Command) (d : Stepped) (r : TaskID) (n : Queue) (ed : d ≡ stepOf s c)
     (er : r ≡ task (runner-in (s .kernel .ready)))
-    (en : n ≡ cond (eqb (a .code) 0) (follow (kind c) (s .kernel .clock) (c .value) (r .0) q) q) where
-  pub moved : Moves s q c left (record { answer = a; queue = n })
-  unfolding followed
-  moved = (ea, rw (en, ea .1, er, ran s))
+    (en : n ≡ cond (eqb (d .answer .code) 0) (follow (kind c) (s .kernel .clock) (c .value) (r .0) q) q) where
+  pub moved : record { next = d .next; answer = d .answer; queue = n } ≡ movedOf s q c
+  unfolding followed movedOf
+  moved = rw (en, ed, er, ran s)

@@ -2,15 +2,10 @@
 use mathlib.Core.Bool.{true}
 use mathlib.Core.Path.{_≡_}
 use Rattle.rules.specs.Machine.{Command}
-use Rattle.rules.specs.Run as R
-use Rattle.rules.proofs.Sounds.{tests-sound}
-use Rattle.rules_exceptions.specs.Exceptions.{answer, sound}
-use Rattle.rules_exceptions.specs.Exceptions as X
-use Rattle.rules_exceptions.proofs.Kept.{tests-state}
+use Rattle.rules_exceptions.specs.Exceptions.{answer}
 use Rattle.kernel.specs.View as K
 use Rattle.kernel_state.specs.declared.State.{State}
-use Rattle.kernel_state.specs.Public.{view, encode, isSound, stepOf}
-use Rattle.kernel_state.proofs.Written.{machine-sound}
+use Rattle.kernel_state.specs.Public.{view, isSound, stepOf}
 use Rattle.queue_chip.specs.declared.Queue.{Queue}
 use Rattle.queue_chip.specs.Queue.{beside}
 use Rattle.queue_beside.specs.Beside.{followed}

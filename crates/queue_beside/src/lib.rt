@@ -5,18 +5,17 @@ ghost use mathlib.Core.Bool.{cond};
 ghost use lib.Dec.{eqb};
 ghost use Rattle.rules.specs.Kinds.{kind};
 ghost use Rattle.kernel.specs.Public.{to-rules};
-ghost use Rattle.kernel.specs.Lent.{lent, left};
-ghost use Rattle.kernel_state.specs.Public.{both};
 ghost use Rattle.queue_chip.specs.Queue.{follow};
-ghost use Rattle.queue_beside.specs.Beside.{Moves};
+ghost use Rattle.queue_beside.specs.Beside.{movedOf};
 use kernel::Command;
 use kernel::TaskID;
 use kernel_state::Answer;
-use kernel_state::in_place;
+use kernel_state::State;
 use queue::Queue;
 
-// The answer, and the queue behind the command.
+// The state behind a command, its answer, and the queue behind it.
 pub struct Moved {
+    pub next: State,
     pub answer: Answer,
     pub queue: Queue,
 }
@@ -31,41 +30,20 @@ fn follow_accepted(code: u8, c: Command, now: u64, runner: TaskID, q: Queue) -> 
     queue::follow(c.kind(), now, c.value, runner, q)
 }
 
-pub fn step(
-    base: &mut [u8; 32],
-    ready: &mut [u8; 32],
-    delayed: &mut [u8; 32],
-    held: &mut [u8; 32],
-    way: &mut [u8; 32],
-    until: &mut [u64; 32],
-    ceiling: &mut [u8; 8],
-    waiter: &mut [u8; 8],
-    clock: &mut u64,
-    started: &mut bool,
-    pending: &mut u32,
-    q: Queue,
-    c: Command,
-) -> Moved
-    ensures { λ r. ⌜ Moves (both (lent base ready delayed held way until ceiling waiter clock started)
-        (now (pending .entry))) q (to-rules c)
-        (both (left base ready delayed held way until ceiling waiter clock started) (now (pending .exit))) r ⌝ }
+// The step of the whole state, and the queue behind it.
+pub fn step(s: State, q: Queue, c: Command) -> Moved
+    ensures { λ r. ⌜ r ≡ movedOf s q (to-rules c) ⌝ }
 {
-    let now = *clock;
-    let runner = kernel_ready::runner(ready);
-    let answer = in_place::step(
-        base,
-        ready,
-        delayed,
-        held,
-        way,
-        until,
-        ceiling,
-        waiter,
-        clock,
-        started,
-        pending,
-        c,
-    );
-    let queue = follow_accepted(answer.code, c, now, runner, q);
-    Moved { answer, queue }
+    let k = s.kernel;
+    let ready = k.ready;
+    let runner = kernel_ready::runner(&ready);
+    let done = s.step(c);
+    let next = done.next;
+    let answer = done.answer;
+    let queue = follow_accepted(answer.code, c, k.clock, runner, q);
+    Moved {
+        next,
+        answer,
+        queue,
+    }
 }

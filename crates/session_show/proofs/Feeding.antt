@@ -23,7 +23,7 @@ use Rattle.show_text.specs.declared.Showing.{Showing}
 use Rattle.show_text.specs.Show.{state-behind, queue-behind, line-text, wanted, shown, state-after, queue-after, text-for, show-after, fed, fed-out}
 use Rattle.show_text.specs.Show.{standing, stood, Feeds}
 use Rattle.session_show.specs.declared.Done.{Done}
-use Rattle.session_show.specs.Carried.{Carries, Puts}
+use Rattle.session_show.specs.Carried.{carried, wanted-text, Puts}
 use Rattle.session_show.proofs.Carrying.{entry-same}
 
 made : {s s′ : State} {q q′ : Queue} {h h′ : Held} {n n′ : ℕ} → s ≡ s′ → q ≡ q′ → h ≡ h′ → n ≡ n′
@@ -72,11 +72,13 @@ module _ (only : ℕ) (w : Showing) (p out₀ : List ℕ) where
             held = sym (holds-whole h p from c e left o y) ∙ i .held;
           }
 
-      module _ (n′ at′ next : ℕ) (spoken : Spoken) (d : Done) (s′ : State) (out′ : List ℕ) (h′ : Held) (text : List ℕ) (ex : next ≡ c .next)
-          (en : n′ ≡ following n) (es : spoken ≡ said) (et : Carries s q n′ spoken d s′) (eh : h′ ≡ nothing-held)
-          (ep : Puts out at text at′ out′) (ea : text ≡ cond (wanted only n′) (line-text s q n′ spoken) []) where
-        pub still-again : 0 < left → c .whole ≡ true → Still s′ (d .queue) h′ n′ next at′ (left - 1) out′
-        still-again o y = rw (ex, eh, et .state, et .queue, es, en) (still-line at′ out′ (rw (ea, es, en) at ep) o y)
+      module _ (n′ at′ next : ℕ) (spoken : Spoken) (d : Done) (out′ : List ℕ) (h′ : Held) (ex : next ≡ c .next) (en : n′ ≡ following n)
+          (es : spoken ≡ said) (et : d ≡ carried s q n′ spoken) (eh : h′ ≡ nothing-held) (ep : Puts out at (wanted-text only d) at′ out′) where
+        pub still-again : 0 < left → c .whole ≡ true → Still (d .state) (d .queue) h′ n′ next at′ (left - 1) out′
+        unfolding carried
+        still-again o y =
+            let put = rw (entry-same s q n′ spoken only d et, es, en) at ep in
+            rw (ex, eh, et, es, en) (still-line at′ out′ put o y)
 
     -- no line is left: what is left of the piece is held
     module _ (h′ : Held) (z : cuts left h p from ≡ []) (eh : holds-after left h p from ≡ h′) where
@@ -86,7 +88,7 @@ module _ (only : ℕ) (w : Showing) (p out₀ : List ℕ) where
           let f : Filling 4096 out₀ (text-for only w p) [] at left out = rw z at (i .filling) in
           let a = filled-at 4096 out₀ (text-for only w p) at left out f in
           let r : standing s q h′ n ≡ show-after w p =
-              made (rw z at (i .state)) (rw z at (i .queue)) (sym eh ∙ i .held) (rw z at (i .number)) in
+          made (rw z at (i .state)) (rw z at (i .queue)) (sym eh ∙ i .held) (rw z at (i .number)) in
           let l = le-leb (4096 * suc (length p)) (length out₀) o in
           (rw (l, ← a, ← r), rw l (filled-out 4096 out₀ (text-for only w p) at left out f), filled-front 4096 out₀ (text-for only w p) at left out f)
 

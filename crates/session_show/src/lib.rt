@@ -1,27 +1,21 @@
 // The program show, piece by piece of its input. (What it prints: crate show_text.)
 ghost use mathlib.Core.Path.{_≡_};
-ghost use mathlib.Core.Bool.{cond};
-ghost use mathlib.Core.List.{[], _++_};
-ghost use Rattle.kernel.specs.Lent.{tables, lent, left};
 ghost use Rattle.kernel_ready.specs.Ready.{running-in};
 ghost use Rattle.kernel.specs.Public.{answerOf, to-rules};
-ghost use Rattle.kernel_state.specs.Public.{both};
 ghost use Rattle.session.specs.CarriedOut.{row-of, asked};
 ghost use Rattle.decimal.specs.Buffer.{In-front};
-ghost use Rattle.text.specs.Printed.{walk-line};
 ghost use Rattle.show_text.specs.Show as show;
-ghost use Rattle.session_show.specs.Carried.{Carries, Puts};
+ghost use Rattle.session_show.specs.Carried.{carried, wanted-text, Puts};
 use kernel::Command;
-use kernel::Kernel;
 use kernel::TaskID;
 use kernel_state::Answer;
 use kernel_state::State;
 use queue::Queue;
 use session::following;
 use session::row_of;
+use show_print::put_entry;
 pub use show_text::Fed;
 pub use show_text::Showing;
-use show_print::put_entry;
 use text::Held;
 use text::Row;
 use text::Spoken;
@@ -42,9 +36,10 @@ pub fn begin() -> Showing
 
 // ---- a line
 
-// What is told of a line: its row, the queue behind it, and whether its answer shows an exception.
+// What is told of a line: its row, the state and the queue behind it, and whether its answer shows an exception.
 struct Done {
     row: Row,
+    state: State,
     queue: Queue,
     exception: bool,
 }
@@ -87,266 +82,101 @@ fn command_of(s: Spoken) -> Command
 }
 
 // A line that says a command is a step of both models; one that says none changes nothing.
-fn carry_out(
-    base: &mut [u8; 32],
-    ready: &mut [u8; 32],
-    delayed: &mut [u8; 32],
-    held: &mut [u8; 32],
-    way: &mut [u8; 32],
-    until: &mut [u64; 32],
-    ceiling: &mut [u8; 8],
-    waiter: &mut [u8; 8],
-    clock: &mut u64,
-    started: &mut bool,
-    pending: &mut u32,
-    q: Queue,
-    n: u64,
-    s: Spoken,
-) -> Done
-    ensures { λ r. ⌜ Carries (both (lent base ready delayed held way until ceiling waiter clock started)
-        (now (pending .entry))) q n s r
-        (both (left base ready delayed held way until ceiling waiter clock started) (now (pending .exit))) ⌝ }
+fn carry_out(s: State, q: Queue, n: u64, l: Spoken) -> Done
+    ensures { λ r. ⌜ r ≡ carried s q n l ⌝ }
 {
-    if s.code != 0 {
-        let row = unmoved(*started, ready, *clock, n, s);
+    let k = s.kernel;
+    if l.code != 0 {
+        let ready = k.ready;
+        let row = unmoved(k.started, &ready, k.clock, n, l);
         return Done {
             row,
+            state: s,
             queue: q,
             exception: false,
         };
     }
-    let c = command_of(s);
-    let m = queue_beside::step(
-        base,
-        ready,
-        delayed,
-        held,
-        way,
-        until,
-        ceiling,
-        waiter,
-        clock,
-        started,
-        pending,
-        q,
-        c,
-    );
-    let answer = m.answer;
+    let c = command_of(l);
+    let m = queue_beside::step(s, q, c);
+    let state = m.next;
     let queue = m.queue;
-    let row = row_of(n, s, plain(answer), *clock);
+    let answer = m.answer;
+    let behind = state.kernel;
+    let row = row_of(n, l, plain(answer), behind.clock);
     Done {
         row,
+        state,
         queue,
         exception: answer.exception,
     }
 }
 
 // The entry of a line, if it is one that is asked for: its row, and the block of the state and the queue behind it.
-fn put_wanted(
-    out: &mut [u8],
-    at: usize,
-    only: u64,
-    done: Done,
-    base: &[u8; 32],
-    ready: &[u8; 32],
-    delayed: &[u8; 32],
-    held: &[u8; 32],
-    way: &[u8; 32],
-    until: &[u64; 32],
-    ceiling: &[u8; 8],
-    waiter: &[u8; 8],
-    started: bool,
-    pending: u32,
-) -> usize
-    ensures { λ r. ⌜ Puts (now (out .entry)) at (cond (show.wanted only (done .row .n)) (walk-line (done .row)
-        ++ show.block-of (both (tables (now (base .entry)) (now (ready .entry)) (now (delayed .entry))
-        (now (held .entry)) (now (way .entry)) (now (until .entry)) (now (ceiling .entry)) (now (waiter .entry))
-        (done .row .clock) started) pending) (done .queue) (done .exception)) []) r (now (out .exit)) ⌝ }
+fn put_wanted(out: &mut [u8], at: usize, only: u64, done: Done) -> usize
+    ensures { λ r. ⌜ Puts (now (out .entry)) at (wanted-text only done) r (now (out .exit)) ⌝ }
 {
     let row = done.row;
     if (only != 0) & (row.n != only) {
         return at;
     }
+    let state = done.state;
+    let queue = done.queue;
     put_entry(
         out,
         at,
         row,
-        base,
-        ready,
-        delayed,
-        held,
-        way,
-        until,
-        ceiling,
-        waiter,
-        started,
-        pending,
-        done.queue,
+        state.kernel,
+        state.pending,
+        queue,
         done.exception,
     )
 }
 
 // ---- a piece
 
-// What stands behind a piece, beside the tables: the queue, what is kept of a line that has begun, how many lines there
-// were, and how many bytes were printed.
-struct Through {
-    queue: Queue,
-    kept: Held,
-    n: u64,
-    at: usize,
+// Where the show stands behind a piece, from its parts.
+fn stood(state: State, queue: Queue, held: Held, n: u64, at: usize) -> Fed
+    ensures { λ r. ⌜ r ≡ show.stood (show.standing state queue held n) at ⌝ }
+{
+    let showing = Showing {
+        state,
+        queue,
+        held,
+        n,
+    };
+    Fed { showing, at }
 }
 
-// The lines that end in a piece, each carried out where the tables lie. Where out has no room for an entry for each
-// byte of the piece and one more, nothing is done.
-fn show_through(
-    base: &mut [u8; 32],
-    ready: &mut [u8; 32],
-    delayed: &mut [u8; 32],
-    held: &mut [u8; 32],
-    way: &mut [u8; 32],
-    until: &mut [u64; 32],
-    ceiling: &mut [u8; 8],
-    waiter: &mut [u8; 8],
-    clock: &mut u64,
-    started: &mut bool,
-    pending: &mut u32,
-    mut queue: Queue,
-    mut kept: Held,
-    mut n: u64,
-    only: u64,
-    piece: &[u8],
-    out: &mut [u8],
-) -> Through
-    ensures { λ r. ⌜ show.Feeds only (show.standing (both (lent base ready delayed held way until ceiling waiter clock
-        started) (now (pending .entry))) queue kept n) (now (piece .entry)) (now (out .entry))
-        (show.stood (show.standing (both (left base ready delayed held way until ceiling waiter clock started)
-        (now (pending .exit))) (r .queue) (r .kept) (r .n)) (r .at)) (now (out .exit)) ⌝ }
+// A piece of input: the lines that end in it, each carried out. Where out has no room for an entry for each byte of the
+// piece and one more, nothing is done. (The state goes from line to line by value: what is printed of it is longer.)
+pub fn feed(w: Showing, only: u64, piece: &[u8], out: &mut [u8]) -> Fed
+    ensures { λ r. ⌜ show.Feeds only w (now (piece .entry)) (now (out .entry)) r (now (out .exit)) ⌝ }
 {
     let mut at = 0;
     if out.len() >> 12 <= piece.len() {
-        return Through { queue, kept, n, at };
+        return Fed { showing: w, at };
     }
+    let mut state = w.state;
+    let mut queue = w.queue;
+    let mut kept = w.held;
+    let mut n = w.n;
     let mut from = 0;
     let mut turns = piece.len() + 1;
     while turns > 0 {
         let c = next_command(kept, piece, from);
         kept = c.held;
         if !c.whole {
-            return Through { queue, kept, n, at };
+            return stood(state, queue, kept, n, at);
         }
         n = following(n);
-        let done = carry_out(
-            base,
-            ready,
-            delayed,
-            held,
-            way,
-            until,
-            ceiling,
-            waiter,
-            clock,
-            started,
-            pending,
-            queue,
-            n,
-            c.spoken,
-        );
+        let done = carry_out(state, queue, n, c.spoken);
+        at = put_wanted(out, at, only, done);
+        state = done.state;
         queue = done.queue;
-        at = put_wanted(
-            out,
-            at,
-            only,
-            done,
-            base,
-            ready,
-            delayed,
-            held,
-            way,
-            until,
-            ceiling,
-            waiter,
-            *started,
-            *pending,
-        );
         from = c.next;
         turns -= 1;
     }
-    Through { queue, kept, n, at }
-}
-
-impl Through {
-    // The show behind a piece, from its parts.
-    fn behind(self, kernel: Kernel, pending: u32) -> Fed
-        ensures { λ r. ⌜ r ≡ show.stood (show.standing (both kernel pending) (self .queue) (self .kept) (self .n))
-            (self .at) ⌝ }
-    {
-        let state = State { kernel, pending };
-        let queue = self.queue;
-        let held = self.kept;
-        let showing = Showing {
-            state,
-            queue,
-            held,
-            n: self.n,
-        };
-        Fed {
-            showing,
-            at: self.at,
-        }
-    }
-}
-
-// A piece of input. Where out has no room for an entry for each byte of the piece and one more, nothing is done.
-pub fn feed(w: Showing, only: u64, piece: &[u8], out: &mut [u8]) -> Fed
-    ensures { λ r. ⌜ (r ≡ show.fed only w (now (piece .entry)) (now (out .entry)))
-        × (now (out .exit) ≡ show.fed-out only w (now (piece .entry)) (now (out .entry)))
-        × In-front (r .at) (now (out .exit)) ⌝ }
-{
-    let k = w.state.kernel;
-    let mut base = k.base;
-    let mut ready = k.ready;
-    let mut delayed = k.delayed;
-    let mut held = k.held;
-    let mut way = k.way;
-    let mut until = k.until;
-    let mut ceiling = k.ceiling;
-    let mut waiter = k.waiter;
-    let mut clock = k.clock;
-    let mut started = k.started;
-    let mut pending = w.state.pending;
-    let t = show_through(
-        &mut base,
-        &mut ready,
-        &mut delayed,
-        &mut held,
-        &mut way,
-        &mut until,
-        &mut ceiling,
-        &mut waiter,
-        &mut clock,
-        &mut started,
-        &mut pending,
-        w.queue,
-        w.held,
-        w.n,
-        only,
-        piece,
-        out,
-    );
-    let kernel = Kernel {
-        base,
-        ready,
-        delayed,
-        held,
-        way,
-        until,
-        ceiling,
-        waiter,
-        clock,
-        started,
-    };
-    t.behind(kernel, pending)
+    stood(state, queue, kept, n, at)
 }
 
 // A last line without a line end counts if it has a byte.
@@ -358,52 +188,10 @@ pub fn finish(w: Showing, only: u64, out: &mut [u8]) -> usize
     if begun.count == 0 {
         return 0;
     }
-    let k = w.state.kernel;
-    let mut base = k.base;
-    let mut ready = k.ready;
-    let mut delayed = k.delayed;
-    let mut held = k.held;
-    let mut way = k.way;
-    let mut until = k.until;
-    let mut ceiling = k.ceiling;
-    let mut waiter = k.waiter;
-    let mut clock = k.clock;
-    let mut started = k.started;
-    let mut pending = w.state.pending;
     let n = following(w.n);
     let spoken = held_command(begun);
-    let done = carry_out(
-        &mut base,
-        &mut ready,
-        &mut delayed,
-        &mut held,
-        &mut way,
-        &mut until,
-        &mut ceiling,
-        &mut waiter,
-        &mut clock,
-        &mut started,
-        &mut pending,
-        w.queue,
-        n,
-        spoken,
-    );
-    put_wanted(
-        out,
-        0,
-        only,
-        done,
-        &base,
-        &ready,
-        &delayed,
-        &held,
-        &way,
-        &until,
-        &ceiling,
-        &waiter,
-        started,
-        pending,
-    )
+    let done = carry_out(w.state, w.queue, n, spoken);
+    put_wanted(out, 0, only, done)
 }
 
 // ---- how far it has come

@@ -11,7 +11,6 @@ ghost use lib.ListN.{length};
 ghost use Rattle.rules.specs.Line.{at, one-if};
 ghost use Rattle.rules_exceptions.specs.Exceptions.{has};
 ghost use Rattle.kernel_line.specs.Tables.{level};
-ghost use Rattle.kernel.specs.Lent.{tables};
 ghost use Rattle.kernel.specs.View.{view, nobody-or};
 ghost use Rattle.queue_chip.specs.Queue.{in-use};
 ghost use Rattle.decimal.specs.Decimal.{decimal};
@@ -378,7 +377,15 @@ fn put_row(out: &mut [u8], at: usize, row: Row) -> usize
     put_walk_line(out, at, row)
 }
 
-fn put_both(out: &mut [u8], at: usize, row: Row, k: Kernel, pending: u32, q: Queue, exception: bool) -> usize
+fn put_both(
+    out: &mut [u8],
+    at: usize,
+    row: Row,
+    k: Kernel,
+    pending: u32,
+    q: Queue,
+    exception: bool,
+) -> usize
     requires { ⌜ at + show-room ≤ length (now out) ⌝ }
     ensures { λ r. ⌜ Put show-room (now (out .entry)) at (walk-line row ++ block (view k) pending q exception)
         (now (out .exit)) r ⌝ }
@@ -387,66 +394,18 @@ fn put_both(out: &mut [u8], at: usize, row: Row, k: Kernel, pending: u32, q: Que
     put_block(out, next, k, pending, q, exception)
 }
 
-// The tables, as they are lent, by value.
-fn tables_of(
-    base: &[u8; 32],
-    ready: &[u8; 32],
-    delayed: &[u8; 32],
-    held: &[u8; 32],
-    way: &[u8; 32],
-    until: &[u64; 32],
-    ceiling: &[u8; 8],
-    waiter: &[u8; 8],
-    clock: u64,
-    started: bool,
-) -> Kernel
-    ensures { λ r. ⌜ r ≡ tables (now (base .entry)) (now (ready .entry)) (now (delayed .entry)) (now (held .entry))
-        (now (way .entry)) (now (until .entry)) (now (ceiling .entry)) (now (waiter .entry)) clock started ⌝ }
-{
-    let base = *base;
-    let ready = *ready;
-    let delayed = *delayed;
-    let held = *held;
-    let way = *way;
-    let until = *until;
-    let ceiling = *ceiling;
-    let waiter = *waiter;
-    Kernel {
-        base,
-        ready,
-        delayed,
-        held,
-        way,
-        until,
-        ceiling,
-        waiter,
-        clock,
-        started,
-    }
-}
-
 // The row, and the block of these tables, of what is pending and of the queue, put at a place where at least 4096 bytes
-// are left, and the next place; else nothing, and the same place. (The tables' clock is the row's.)
+// are left, and the next place; else nothing, and the same place.
 pub fn put_entry(
     out: &mut [u8],
     at: usize,
     row: Row,
-    base: &[u8; 32],
-    ready: &[u8; 32],
-    delayed: &[u8; 32],
-    held: &[u8; 32],
-    way: &[u8; 32],
-    until: &[u64; 32],
-    ceiling: &[u8; 8],
-    waiter: &[u8; 8],
-    started: bool,
+    k: Kernel,
     pending: u32,
     q: Queue,
     exception: bool,
 ) -> usize
-    ensures { λ r. let k = tables (now (base .entry)) (now (ready .entry)) (now (delayed .entry)) (now (held .entry))
-        (now (way .entry)) (now (until .entry)) (now (ceiling .entry)) (now (waiter .entry)) (row .clock) started in
-        let text = walk-line row ++ block (view k) pending q exception in
+    ensures { λ r. let text = walk-line row ++ block (view k) pending q exception in
         ⌜ (r ≡ place-after show-room (now (out .entry)) at text)
         × (now (out .exit) ≡ contents-after show-room (now (out .entry)) at text) × (r ≤ at + show-room) ⌝ }
 {
@@ -456,6 +415,5 @@ pub fn put_entry(
     if out.len() - 4096 < at {
         return at;
     }
-    let k = tables_of(base, ready, delayed, held, way, until, ceiling, waiter, row.clock, started);
     put_both(out, at, row, k, pending, q, exception)
 }

@@ -14,7 +14,7 @@ use Rattle.kernel.specs.declared.command.Answer as K
 use Rattle.kernel.specs.Public as P
 use Rattle.kernel_state.specs.declared.State.{State}
 use Rattle.kernel_state.specs.declared.Stepped.{Stepped}
-use Rattle.kernel_state.specs.Public.{encode, view, isSound, stepOf}
+use Rattle.kernel_state.specs.Public.{encode, isSound, stepOf}
 use Rattle.kernel_state.proofs.Written.{alike, step-sound, step-on, encode-sound, view-encode}
 use Rattle.queue_chip.specs.declared.Queue.{Queue}
 use Rattle.queue_chip.specs.Queue.{beside}

@@ -61,8 +61,9 @@ returns : tie.Need-returns Inv-loop μ-loop
 returns c =
     let lp = c .before .before .before .before .before .loop in
     let g = c .before .wants in
-    at-end show-after (text-for _) (wants _) at-first (lp .showing) _ (lp .went) (lp .turns) (lp .inv .2)
-    (inr (inl (wants-none (wants _ (lp .showing)) (g .result) (g .ensures) (c .if2 .left))))
+    let only = c .before .before .before .before .before .before .before .before .before .args .only in
+    at-end show-after (text-for only) (wants only) at-first (lp .showing) _ (lp .went) (lp .turns) (lp .inv .2)
+    (inr (inl (wants-none (wants only (lp .showing)) (g .result) (g .ensures) (c .if2 .left))))
 
 same-length-3 : tie.Need-same-length-3 Inv-loop μ-loop
 same-length-3 c = search needs
@@ -74,7 +75,8 @@ returns-2 : tie.Need-returns-2 Inv-loop μ-loop
 returns-2 c =
     let lp = c .before .before .before .loop in
     let g = c .before .goes-on in
-    at-end show-after (text-for _) (wants _) at-first (lp .showing) _ (lp .went) (lp .turns) (lp .inv .2)
+    let only = c .before .before .before .before .before .before .before .args .only in
+    at-end show-after (text-for only) (wants only) at-first (lp .showing) _ (lp .went) (lp .turns) (lp .inv .2)
     (inl (stopped (lp .went .kind) (g .result) (g .ensures) (c .if1 .left)))
 
 same-length-5 : tie.Need-same-length-5 Inv-loop μ-loop
@@ -86,7 +88,8 @@ same-length-6 c = search needs
 returns-3 : tie.Need-returns-3 Inv-loop μ-loop
 returns-3 c =
     let lp = c .before .loop in
-    at-end show-after (text-for _) (wants _) at-first (lp .showing) _ (lp .went) (lp .turns) (lp .inv .2) (inr (inr (c .loop-test .left)))
+    let only = c .before .before .before .before .before .args .only in
+    at-end show-after (text-for only) (wants only) at-first (lp .showing) _ (lp .went) (lp .turns) (lp .inv .2) (inr (inr (c .loop-test .left)))
 
 pub all-pieces-spec : {M : Type 1} → statement M
 all-pieces-spec =

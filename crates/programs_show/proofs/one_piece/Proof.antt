@@ -80,7 +80,8 @@ returns-2 c =
     let f = c .before .before .before .before .before .put-lines in
     let a = c .before .before .before .before .before .before .before .before .before .before .before .before .before .before .before .before .before .before
     .before .args in
-    turned show-after (text-for (a .only)) _ _ (a .was) (got .result) _ (n .result) (f .result .at) _ _ (got .ensures) on (n .ensures) (f .ensures .0) (f .ensures .1)
+    turned show-after (text-for (a .only)) _ _ (a .was) (got .result) _ (n .result) (f .result .at) _ _ (got .ensures) on (n .ensures) (f .ensures .0)
+    (f .ensures .1)
     (c .before .write-whole .ensures)
 
 pub one-piece-spec : {M : Type 1} → statement M

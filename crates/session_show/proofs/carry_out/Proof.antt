@@ -1,8 +1,6 @@
 -- `session_show::carry_out` meets its contract: the line says no command, and all stays, or it is a step of both models. Assumes nothing.
 use borrow.Author.Needs.{needs}
-use Rattle.kernel.specs.Step.{tables}
 use Rattle.kernel.specs.Public.{to-rules}
-use Rattle.kernel_state.specs.Public.{both}
 use Rattle.session_show.proofs.Carrying.{says-none, says-one}
 use Rattle.session_show.proofs.carry_out.Statement.{statement}
 use Rattle.session_show.proofs.carry_out.Tie as tie
@@ -13,10 +11,8 @@ unmoved-requires c κs = search needs
 returns : tie.Need-returns
 returns c =
     let test = c .before .before .before in
-    let a = test .before .before .args in
-    let k = tables (a .base .now) (a .ready .now) (a .delayed .now) (a .held .now) (a .way .now) (a .until .now) (a .ceiling .now) (a .waiter .now)
-    (a .clock .now) (a .started .now) in
-    says-none (both k (a .pending .now)) (a .q) (a .n) (a .s) (c .unmoved .result) (test .if1 .taken) (c .unmoved .ensures)
+    let a = test .before .before .before .args in
+    says-none (a .s) (a .q) (a .n) (a .l) (c .unmoved .result) (test .if1 .taken) (c .unmoved .ensures)
 
 command-of-requires : tie.Need-command-of-requires
 command-of-requires c κs = search needs
@@ -32,14 +28,11 @@ row-of-requires c κs = search needs
 
 returns-2 : tie.Need-returns-2
 returns-2 c =
-    let step = c .before .before .before .before .before .step in
-    let said = c .before .before .before .before .before .before .before .before .before .before .before .before .before .before .before .before .before in
-    let a = said .before .before .before .args in
-    let k = tables (a .base .now) (a .ready .now) (a .delayed .now) (a .held .now) (a .way .now) (a .until .now) (a .ceiling .now) (a .waiter .now)
-    (a .clock .now) (a .started .now) in
-    says-one (both k (a .pending .now)) (a .q) (a .n) (a .s) _ (step .result) (c .row-of .result) (to-rules (said .command-of .result))
-    (c .before .before .plain .result) (said .command-of .ensures) (step .ensures) (c .before .before .plain .ensures) (c .row-of .ensures)
-    (said .before .if1 .left)
+    let step = c .before .before .before .before .before .before in
+    let said = step .before in
+    let a = said .before .before .before .before .args in
+    says-one (a .s) (a .q) (a .n) (a .l) (step .step .result) (c .row-of .result) (to-rules (said .command-of .result)) (c .before .plain .result)
+    (said .command-of .ensures) (step .step .ensures) (c .before .plain .ensures) (c .row-of .ensures) (said .before .if1 .left)
 
 pub carry-out-spec : {M : Type 1} → statement M
 carry-out-spec =

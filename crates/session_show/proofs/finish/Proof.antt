@@ -32,18 +32,17 @@ held-size c = search needs
 returns-2 : tie.Need-returns-2
 returns-2 c =
     let put = c .before .before .put-wanted in
-    let told = c .before .before .before .before .before .before .before .before .before .before .before .before in
-    let line = told .before .before .before .before .before .before .before .before .before .before .before .before in
+    let told = c .before .before .before .before in
+    let line = told .before in
     let number = line .before in
-    let test = number .before .before .before .before .before .before .before .before .before .before in
-    let start = test .before .before .before .before in
+    let start = number .before .before .before .before .before in
     let a = start .args in
     let l = held-size start in
     one-left (a .only) (a .w) (a .out .now) (number .following .result) (put .result) (line .held-command .result) (put .last .0) _
     (number .following .ensures) (line .held-command .ensures) (put .ensures)
-    (entry-same (a .w .state) (a .w .queue) (number .following .result) (line .held-command .result) (told .carry-out .result) _ (told .carry-out .ensures)
-    (a .only))
-    (test .if1 .left) (omega (arith, l))
+    (entry-same (a .w .state) (a .w .queue) (number .following .result) (line .held-command .result) (a .only) (told .carry-out .result)
+    (told .carry-out .ensures))
+    (number .before .if1 .left) (omega (arith, l))
 
 pub finish-spec : {M : Type 1} → statement M
 finish-spec =

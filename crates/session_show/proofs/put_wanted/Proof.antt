@@ -2,11 +2,13 @@
 use borrow.Author.Needs.{needs}
 use Rattle.kernel_state.specs.Public.{view}
 use Rattle.show_text.specs.Show.{wanted, block-of}
+use Rattle.session_show.specs.Carried.{wanted-text}
 use Rattle.session_show.proofs.Carrying.{unwanted, is-wanted, skipped, put-so}
 use Rattle.session_show.proofs.put_wanted.Statement.{statement}
 use Rattle.session_show.proofs.put_wanted.Tie as tie
 
 returns : tie.Need-returns
+unfolding wanted-text
 returns c =
     let a = c .before .before .before .before .args in
     skipped (a .out .now) (a .at) _ (wanted (a .only) (a .done .row .n)) (unwanted (a .only) (a .done .row .n) (c .if1 .taken))
@@ -18,10 +20,10 @@ same-length : tie.Need-same-length
 same-length c = search needs
 
 returns-2 : tie.Need-returns-2
-unfolding block-of view
+unfolding wanted-text block-of view
 returns-2 c =
     let put = c .before .before .put-entry in
-    let test = c .before .before .before .before in
+    let test = c .before .before .before .before .before .before in
     let a = test .before .before .before .before .args in
     put-so (a .out .now) (a .at) _ (wanted (a .only) (a .done .row .n)) (put .result) _ (is-wanted (a .only) (a .done .row .n) (test .if1 .left))
     (put .ensures)

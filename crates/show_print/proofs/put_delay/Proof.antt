@@ -11,7 +11,7 @@ use Rattle.show_print.proofs.put_delay.Statement.{statement}
 use Rattle.show_print.proofs.put_delay.Tie as tie
 
 abbrev Inv-loop : tie.InvT-loop
-Inv-loop out₀ p until delayed next₀ i₀ t₀ t10 out next i t = 
+Inv-loop out₀ p until delayed next₀ i₀ t₀ t10 out next i t =
     At delayed i t
     × Begun (25 * i) (delay-rest until delayed 0) (delay-rest until delayed i) out₀ next₀ out next
 

@@ -2,7 +2,6 @@
 use native.Mathlib.Omega.{arith}
 use mathlib.Core.List.{_++_}
 use borrow.Author.Needs.{needs}
-use Rattle.kernel.specs.Lent.{tables}
 use Rattle.kernel.specs.View.{view}
 use Rattle.text.specs.Printed.{walk-line}
 use Rattle.show_text.specs.Block.{block, show-room}
@@ -13,9 +12,7 @@ use Rattle.show_print.proofs.put_entry.Tie as tie
 returns : tie.Need-returns
 returns c =
     let a = c .before .before .args in
-    let k = tables (a .base .now) (a .ready .now) (a .delayed .now) (a .held .now) (a .way .now) (a .until .now) (a .ceiling .now) (a .waiter .now)
-    (a .row .clock) (a .started) in
-    refused-within show-room (a .out .now) (a .at) (walk-line (a .row) ++ block (view k) (a .pending) (a .q) (a .exception)) (omega arith)
+    refused-within show-room (a .out .now) (a .at) (walk-line (a .row) ++ block (view (a .k)) (a .pending) (a .q) (a .exception)) (omega arith)
 
 sub-if2 : tie.Need-sub-if2
 sub-if2 c = search needs
@@ -23,12 +20,7 @@ sub-if2 c = search needs
 returns-2 : tie.Need-returns-2
 returns-2 c =
     let a = c .before .before .before .args in
-    let k = tables (a .base .now) (a .ready .now) (a .delayed .now) (a .held .now) (a .way .now) (a .until .now) (a .ceiling .now) (a .waiter .now)
-    (a .row .clock) (a .started) in
-    refused-within show-room (a .out .now) (a .at) (walk-line (a .row) ++ block (view k) (a .pending) (a .q) (a .exception)) (omega arith)
-
-tables-of-requires : tie.Need-tables-of-requires
-tables-of-requires c κs = search needs
+    refused-within show-room (a .out .now) (a .at) (walk-line (a .row) ++ block (view (a .k)) (a .pending) (a .q) (a .exception)) (omega arith)
 
 put-both-requires : tie.Need-put-both-requires
 put-both-requires c κs = search needs
@@ -39,9 +31,8 @@ same-length c = search needs
 returns-3 : tie.Need-returns-3
 returns-3 c =
     let put = c .before .before in
-    let made = put .before .before in
-    let a = made .before .before .before .before .args in
-    put-within show-room (a .out .now) (a .at) _ _ _ (omega arith) (rw (made .tables-of .ensures) at (put .put-both .ensures))
+    let a = put .before .before .before .before .before .args in
+    put-within show-room (a .out .now) (a .at) _ _ _ (omega arith) (put .put-both .ensures)
 
 pub put-entry-spec : {M : Type 1} → statement M
 put-entry-spec =
@@ -50,7 +41,6 @@ put-entry-spec =
     returns
     sub-if2
     returns-2
-    tables-of-requires
     put-both-requires
     same-length
     returns-3)

@@ -14,7 +14,7 @@ use Rattle.show_print.proofs.put_ready.Statement.{statement}
 use Rattle.show_print.proofs.put_ready.Tie as tie
 
 abbrev Inv-loop : tie.InvT-loop
-Inv-loop out₀ p base ceiling held ready next₀ i₀ t₀ t13 out next i t = 
+Inv-loop out₀ p base ceiling held ready next₀ i₀ t₀ t13 out next i t =
     At ready i t
     × Begun (8 * i) (ready-rest (seen base ceiling held [] []) ready 0) (ready-rest (seen base ceiling held [] []) ready i) out₀ next₀ out next
 
