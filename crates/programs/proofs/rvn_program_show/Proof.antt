@@ -3,8 +3,8 @@ use borrow.Author.Needs.{needs}
 use Rattle.programs.proofs.rvn_program_show.Statement.{statement}
 use Rattle.programs.proofs.rvn_program_show.Tie as tie
 
-run-requires : tie.Need-run-requires
-run-requires c κs = search needs
+run-asked-requires : tie.Need-run-asked-requires
+run-asked-requires c κs = search needs
 
 cast-result : tie.Need-cast-result
 cast-result c = search needs
@@ -13,4 +13,4 @@ returns : tie.Need-returns
 returns c = search needs
 
 pub rvn-program-show-spec : {M : Type 1} → statement M
-rvn-program-show-spec = tie.close (tie.spec run-requires cast-result returns)
+rvn-program-show-spec = tie.close (tie.spec run-asked-requires cast-result returns)
