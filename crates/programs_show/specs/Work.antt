@@ -25,7 +25,8 @@ Shown only w went =
 abbrev pub missing : ℕ → Showing → Bool
 missing only w = not (eqb only 0) && ltb (lines-seen w) only
 
--- Show of some pieces: 0, or 2 where the line that is asked for is not there; or 3 where a read or a write failed.
+-- Show of some pieces: 0, or 2 where they have no such line as is asked for; or 3 where a read or a write failed. (That
+-- they are the pieces that were read no contract can say: host/io.py tries it.)
 abbrev pub Shown-or-failed : ℕ → ℕ → Type 0
 Shown-or-failed only r =
     ((ps : List (List ℕ)) × (r ≡ cond (missing only (behind show-after at-first ps)) 2 0)) ⊎ (r ≡ 3)

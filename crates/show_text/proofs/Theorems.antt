@@ -132,8 +132,8 @@ wanted-one only s q n l ms e a h =
     rw (e, ne-eqb only 0 a, eq-eqb only only refl, quiet-behind only ms (state-behind s (command-of l)) (queue-behind s q (command-of l)) only a (omega arith) h)
     (append-nil (line-text s q only (command-of l)))
 
--- Line N alone is the header and, of all that show prints, what it prints for line N: the same bytes stand there between what is printed for the lines
--- before it and for those behind it. (Lines are numbered up to 2^64-1; of the last number there could be many.)
+-- Line N alone is the header and, of all that show prints, what it prints for line N: the same bytes stand there behind what is printed for the lines
+-- before it, and something is behind them. (Lines are numbered up to 2^64-1; of the last number there could be many.)
 -- Rules out: a show of line N that begins or ends with another line, or does not carry out the lines before it. Leaves: an input with fewer lines (next).
 module _ (input : List ℕ) (ls : List (List ℕ)) (l : List ℕ) (ms : List (List ℕ)) (e : lines input ≡ ls ++ (l ∷ ms))
     (h : suc (length ls) < 18446744073709551615) where
@@ -156,7 +156,7 @@ module _ (input : List ℕ) (ls : List (List ℕ)) (l : List ℕ) (ms : List (Li
       before = state-after (encode fresh) ls
 
 -- Where the input has no line N, nothing but the header is printed.
--- Rules out: a show that prints the last line instead. Leaves: the status, which says it (programs_show).
+-- Rules out: a show that prints the last line instead. Leaves: the status, which says it (host/io.py).
 pub show-none : (input : List ℕ) (only : ℕ) → length (lines input) < only → show-text only input ≡ walk-header
 unfolding show-text
 show-none input only h = rw (quiet-before only (lines input) (encode fresh) none 0 (omega (arith, h))) (append-nil walk-header)
@@ -177,13 +177,14 @@ printed-lines only (p ∷ ps) w =
     (w .n)))
 
 -- Whatever the pieces in which its input comes, of any number and length, show prints what it prints of the whole input, of all lines and of one.
--- Rules out: a program that splits a line at a piece's end, drops a last line without a line end, or loses the queue between pieces. Leaves: nothing of it.
+-- Rules out: a program that splits a line at a piece's end, drops a last line without a line end, or loses the queue between pieces.
+-- Leaves: that these bytes are written (show_cases, host/io.py).
 pub show-whole : (only : ℕ) (ps : List (List ℕ)) → walk-header ++ printed only at-first ps ≡ show-text only (joined ps)
 unfolding show-text at-first
 show-whole only ps = rw (printed-lines only ps at-first, lines-whole ps, shown-kept)
 
 -- Where line N was printed, all that could still come prints nothing: so a show that reads no more has lost nothing.
--- Rules out: a show that stops too early. Leaves: that it stops (programs_show).
+-- Rules out: a show that stops too early. Leaves: that it stops (host/io.py).
 pub rest-is-silent : (only : ℕ) (ps : List (List ℕ)) (w : Showing) → only < 18446744073709551615 → wants only w ≡ false → printed only w ps ≡ []
 rest-is-silent only ps w h e =
     let v = both-false (eqb only 0) (ltb (w .n) only) e in
@@ -198,7 +199,8 @@ module _ (ls : List (List ℕ)) where
   state-is-runs = rw (state-runs ls fresh fresh-is-sound) (view-encode (run fresh (commands ls)) (run-keeps-sound fresh (commands ls) fresh-is-sound))
 
   -- The queue that is shown is the second model's, behind the same commands.
-  -- Rules out: a queue that follows a refused command, or a line that says none; one that is read off the delay line. Leaves: nothing of the queue.
+  -- Rules out: a queue that follows a refused command, or a line that says none. Leaves: how it was come by. One that is read off the delay line
+  -- would be the same value (next); that it is stepped, queue_beside's source says.
   pub queue-is-chips : queue-after (encode fresh) none ls ≡ Chip.run Chip.fresh (commands ls) .queue
   queue-is-chips = queue-runs ls fresh none fresh-is-sound ∙ beside-fresh (commands ls)
 
