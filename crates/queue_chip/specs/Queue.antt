@@ -16,6 +16,8 @@ use Rattle.rules.specs.Run.{accepts}
 use Rattle.kernel_line.specs.Tables.{more}
 use Rattle.queue_chip.specs.declared.Queue.{Queue}
 
+-- By their parts. (In document 000 the registers `task` and `time` are PidDQ and t, and the table `times` is DQ_RAM; the
+-- ages are ours.)
 abbrev pub queue : ℕ → ℕ → ℕ → List ℕ → List ℕ → Queue
 queue task time age times ages = record { task = task; time = time; age = age; times = times; ages = ages }
 
