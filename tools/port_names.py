@@ -18,6 +18,7 @@ DECLARED = re.compile(r'(?m)^ *(?:(?:pub|abbrev|unfoldable) )*(' + WORD + r')(?:
 GROUPED = re.compile(r'(?m)^ *(?:(?:pub|abbrev|unfoldable) )*(' + WORD + r'(?: ' + WORD + r')+) +:(?=\s)')
 RECORD = re.compile(r'(?m)^ *(?:pub )?record (\S+)[^\n]*where\n((?:[ \t]+[^\n]*\n|\n)+)')
 FIELD = re.compile(r'(?m)^ +(?:pub )?(' + WORD + r') :')
+ALIAS = re.compile(r'(?m)^ *(?:pub |ghost |unfoldable )*use Rattle\.\w+\.(?:specs|proofs)\.\S+ as (\w+)')
 USE = re.compile(r'(?m)^ *(?:pub |ghost |unfoldable )*use ([^\s;{]+)(\{[^}]*\})?')
 
 
@@ -92,13 +93,15 @@ def taken_from_libraries(text):
 def turn(text, names, fields, stay, of_function=False):
     """Each word of text that is a name of ours, turned."""
 
+    aliases = set(ALIAS.findall(text))
+
     def word(found):
         it, before = found[0], text[: found.start()]
         if not is_old(it):
             return it
         if before.endswith('.'):
             path = re.search(r'[^\s(){};,@"]*$', before)[0]
-            ours = path.startswith('Rattle.') and re.match(r'Rattle\.(\w+)\.(specs|proofs)\.\w+\.$', path)
+            ours = re.match(r'Rattle\.(\w+)\.(specs|proofs)\.\w+\.$', path) or path[:-1] in aliases
             if it in fields and not (of_function and it.endswith(('-is', '-fits'))):
                 return snake(it)
             if not ours:
@@ -120,7 +123,8 @@ def turn_antt(text, names, fields, stay, of_function):
     return '\n'.join(lines)
 
 
-CLAUSE = re.compile(r'(?m)^(\s*(?:pub )?(?:requires|ensures|ghost)\b.*)$')
+CLAALIAS = re.compile(r'(?m)^ *(?:pub |ghost |unfoldable )*use Rattle\.\w+\.(?:specs|proofs)\.\S+ as (\w+)')
+USE = re.compile(r'(?m)^(\s*(?:pub )?(?:requires|ensures|ghost)\b.*)$')
 
 
 def turn_rt(text, names, fields, stay):

@@ -13,14 +13,14 @@ use Rattle.generator_menu.specs.Public.{told_command, chosen_of}
 
 -- a profile of 32-bit numbers, as the definitions have it; and the answer of a draw, in the program's numbers
 abbrev pub profile_of : Profile → draw.Profile
-profile_of p = draw.profile-of p.span p.weights
+profile_of p = draw.profile_of p.span p.weights
 
 abbrev pub told_drawn : draw.Drawn → Drawn
 told_drawn d = record { code = d.code; command = told_command d.command; seed = d.seed }
 
 -- A refused draw answers op 0 with zero operands and the same seed.
 abbrev pub refused_of : ℕ → ℕ → Drawn
-refused_of code seed = record { code = code; command = told_command draw.no-command; seed = seed }
+refused_of code seed = record { code = code; command = told_command draw.no_command; seed = seed }
 
 -- The answer of a draw that is made: the command that its three draws choose, and the third as the seed.
 abbrev pub made_of : Kernel → Profile → ℕ → ℕ → ℕ → Drawn
@@ -45,7 +45,7 @@ drawn_in k seed p = told_drawn (draw.drawn (view k) seed (profile_of p))
 
 -- A draw's checks, 1, 17, 18, 2: the number of the first that holds, 0 for none.
 abbrev pub code_of : Kernel → ℕ → Profile → ℕ
-code_of k seed p = cond (is_sound k) (draw.draw-refusal (view k) seed (profile_of p)) 1
+code_of k seed p = cond (is_sound k) (draw.draw_refusal (view k) seed (profile_of p)) 1
 
 -- A draw: 1 comes first, and a state that is not sound is answered so.
 unfoldable pub drawn_of : Kernel → ℕ → Profile → Drawn

@@ -47,7 +47,7 @@ fn made(
     seed: u32,
     p: Profile,
 ) -> Drawn
-    ensures { result ≡ public.madeIn
+    ensures { result ≡ public.made_in
         base.now ready.now held.now way.now
         ceiling waiter clock seed p }
 {
@@ -78,7 +78,7 @@ pub fn draw<'a>(
     seed: u32,
     p: Profile,
 ) -> Drawn
-    ensures { result ≡ public.drawnOf (tables
+    ensures { result ≡ public.drawn_of (tables
         base.now ready.now delayed.now held.now way.now
         until.now ceiling waiter clock started) seed p }
 {

@@ -21,11 +21,11 @@ abbrev pub made_of : Made → Drawn
 made_of d = record { code = 0; command = d.command; seed = d.seed; spent = d.spent }
 
 abbrev pub refused_of : ℕ → ℕ → Drawn
-refused_of code seed = record { code = code; command = told_command draw.no-command; seed = seed; spent = 0 }
+refused_of code seed = record { code = code; command = told_command draw.no_command; seed = seed; spent = 0 }
 
 -- A draw of edition 2: 1 comes first, and a state that is not sound is answered so.
 unfoldable pub drawn_of : Kernel → ℕ → Profile → Drawn
-drawn_of k seed p = cond (is_sound k) (told_drawn (draw.drawn-evenly (view k) seed (profile_of p))) (refused_of 1 seed)
+drawn_of k seed p = cond (is_sound k) (told_drawn (draw.drawn_evenly (view k) seed (profile_of p))) (refused_of 1 seed)
 
 -- A draw with its step: the state left behind and the answer follow from what was drawn, as they do for edition 1.
 abbrev pub bare : Drawn → once.Drawn

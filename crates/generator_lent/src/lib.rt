@@ -118,7 +118,7 @@ pub fn choice_from(seed: u32, n: u64) -> Choice
 
 // A number below n, where one is needed; what is not needed (n = 0) spends one plain draw.
 pub fn choice_if_needed(seed: u32, n: u64) -> Choice
-    ensures { result ≡ told_choice (below.if-needed below.even n seed) }
+    ensures { result ≡ told_choice (below.if_needed below.even n seed) }
 {
     if n == 0 {
         Choice {

@@ -34,7 +34,7 @@ fn needed(x: u32, n: u64) -> u32
 
 // To a runner of that base: declared, ceiling at least the base, not held.
 fn is_eligible(ceiling: [u8; 8], held: &[u8; 32], base: u8, o: u8) -> bool
-    ensures { result ≡ tables.eligibleIn ceiling held.now base o }
+    ensures { result ≡ tables.eligible_in ceiling held.now base o }
 {
     let top = kernel_line::of_object(ceiling, POId(o));
     let n = kernel_line::holders(held, POId(o));
@@ -43,7 +43,7 @@ fn is_eligible(ceiling: [u8; 8], held: &[u8; 32], base: u8, o: u8) -> bool
 
 // How many of the objects 1..7 are eligible.
 fn count_eligible(ceiling: [u8; 8], held: &[u8; 32], base: u8) -> u64
-    ensures { result ≡ length (sift (tables.eligibleIn ceiling held.now base) objects) }
+    ensures { result ≡ length (sift (tables.eligible_in ceiling held.now base) objects) }
 {
     let mut n = 0u64;
     let mut o = 1u8;
@@ -58,7 +58,7 @@ fn count_eligible(ceiling: [u8; 8], held: &[u8; 32], base: u8) -> u64
 
 // The eligible object number `n`, counted from 0 upward; 0 where there are not so many.
 fn nth_eligible(ceiling: [u8; 8], held: &[u8; 32], base: u8, n: u64) -> u8
-    ensures { result ≡ get_or (sift (tables.eligibleIn ceiling held.now base) objects) n 0 }
+    ensures { result ≡ get_or (sift (tables.eligible_in ceiling held.now base) objects) n 0 }
 {
     let mut left = n;
     let mut o = 1u8;
@@ -106,7 +106,7 @@ fn look(
     clock: u64,
     span: u32,
 ) -> Sight
-    ensures { result ≡ tables.sightIn
+    ensures { result ≡ tables.sight_in
         base.now ready.now held.now way.now ceiling clock span }
 {
     let runner = kernel_ready::runner(ready);
@@ -136,7 +136,7 @@ fn worth(legal: bool, w: u32) -> u32
 
 // What each kind weighs: its weight if it is legal, and else nothing.
 fn worths(s: Sight, w: [u32; 8]) -> [u32; 8]
-    ensures { result ≡ tables.worthsOf s w }
+    ensures { result ≡ tables.worths_of s w }
 {
     let delay = worth(s.free & s.room, w[0]);
     let advance = worth(s.room, w[2]);
@@ -218,7 +218,7 @@ fn operand_below(i: u8, s: Sight, span: u32) -> u64
 
 // The object that a command of kind i names: the eligible one of that number, or the one that is held; 0 for none.
 fn object_for(i: u8, s: Sight, ceiling: [u8; 8], held: &[u8; 32], x: u32) -> u8
-    ensures { result ≡ tables.objectAt ceiling held.now s i x }
+    ensures { result ≡ tables.object_at ceiling held.now s i x }
 {
     if (i == 3) | (i == 6) {
         nth_eligible(ceiling, held, s.level, wider(x))
@@ -231,7 +231,7 @@ fn object_for(i: u8, s: Sight, ceiling: [u8; 8], held: &[u8; 32], x: u32) -> u8
 
 // Nobody waits on the object.
 fn is_quiet(waiter: [u8; 8], o: u8) -> bool
-    ensures { result ≡ tables.quietAt waiter o }
+    ensures { result ≡ tables.quiet_at waiter o }
 {
     kernel_line::of_object(waiter, POId(o)) == 0
 }
@@ -239,7 +239,7 @@ fn is_quiet(waiter: [u8; 8], o: u8) -> bool
 // Below which number the barrier is chosen, 0 for one that is not needed: an entry's is 1 where the object has a
 // waiter.
 fn barrier_below(i: u8, quiet: bool) -> u64
-    ensures { result ≡ tables.barrierAt quiet i }
+    ensures { result ≡ tables.barrier_at quiet i }
 {
     let entry = numbers::choose(quiet, 2, 0);
     let column = [0, 0, 0, 0, 2, 0, entry, 2];
@@ -248,7 +248,7 @@ fn barrier_below(i: u8, quiet: bool) -> u64
 
 // A sum that does not fit is no time: a delay is not legal there.
 fn delay_time(clock: u64, x: u32) -> u64
-    ensures { result ≡ tables.delayTime clock x }
+    ensures { result ≡ tables.delay_time clock x }
 {
     if has_room(clock, x) {
         clock + wider(x)
@@ -259,7 +259,7 @@ fn delay_time(clock: u64, x: u32) -> u64
 
 // The command of kind i, by the menu's columns, of an object and the two numbers; no command for 8.
 fn command_for(i: u8, clock: u64, object: u8, quiet: bool, x: u32, y: u32) -> Command
-    ensures { result ≡ tables.commandAt clock object quiet x y i }
+    ensures { result ≡ tables.command_at clock object quiet x y i }
 {
     let barrier = (y % 256) as u8;
     let at_entry = numbers::choose(quiet, barrier, 1);
@@ -331,7 +331,7 @@ fn finish(
     spent: u8,
 ) -> Made
     requires { spent ≤ 8 }
-    ensures { result ≡ tables.finishedAt held.now ceiling waiter clock span s i seed spent }
+    ensures { result ≡ tables.finished_at held.now ceiling waiter clock span s i seed spent }
 {
     let operand = choice_if_needed(seed, operand_below(i, s, span));
     let object = object_for(i, s, ceiling, held, operand.number);

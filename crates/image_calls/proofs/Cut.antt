@@ -155,11 +155,11 @@ not_good k seed p q h j = go (eqb seed 0) refl
     go true e = rw (h, j, e)
     go false e = rw (h, j, e)
 
-not_good_evenly : (k : Kernel) (seed : ℕ) → RefusedAlike (evenly.drawnOf k seed)
-unfolding evenly.drawnOf drawn_evenly drawn_by draw_refusal
+not_good_evenly : (k : Kernel) (seed : ℕ) → RefusedAlike (evenly.drawn_of k seed)
+unfolding evenly.drawn_of drawn_evenly drawn_by draw_refusal
 not_good_evenly k seed p q h j = go (eqb seed 0) refl
   where
-    go : (b : Bool) → eqb seed 0 ≡ b → evenly.drawnOf k seed p ≡ evenly.drawnOf k seed q
+    go : (b : Bool) → eqb seed 0 ≡ b → evenly.drawn_of k seed p ≡ evenly.drawn_of k seed q
     go true e = rw (h, j, e)
     go false e = rw (h, j, e)
 
@@ -185,4 +185,4 @@ pub asked_draw_evenly : {r : counted.Drawn} {p : Profile} (s : List ℕ) (seed s
     → p ≡ fitted_profile span weights → r ≡ draw_even_on s seed (told_profile span weights)
 unfolding draw_even_on
 asked_draw_evenly s seed span weights e q =
-    e ∙ ap (draw_even_on s seed) q ∙ rw (fitted_draw (evenly.drawnOf (kernel_of s) seed) (not_good_evenly (kernel_of s) seed) span weights)
+    e ∙ ap (draw_even_on s seed) q ∙ rw (fitted_draw (evenly.drawn_of (kernel_of s) seed) (not_good_evenly (kernel_of s) seed) span weights)

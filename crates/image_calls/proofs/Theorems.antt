@@ -67,13 +67,13 @@ times_small : (l : List (ℕ × ℕ)) → All (λ e. e.0 < 2 ^ 64) l → All (λ
 times_small [] a = all_zero 32
 times_small (e ∷ l) a = all_set (λ x. x < 2 ^ 64) (times l) e.1 e.0 a.0 (times_small l a.1)
 
-until_small : (k : Kernel) → P.isSound k ≡ true → All (λ x. x < 2 ^ 64) k.until
+until_small : (k : Kernel) → P.is_sound k ≡ true → All (λ x. x < 2 ^ 64) k.until
 unfolding K.encode
 until_small k e =
     let w = stands k e in
     subst (λ (j : Kernel). All (λ x. x < 2 ^ 64) j.until) w.written (times_small (K.view k).delay w.machine.in_time.times_fit)
 
-clock_small : (k : Kernel) → P.isSound k ≡ true → k.clock < 2 ^ 64
+clock_small : (k : Kernel) → P.is_sound k ≡ true → k.clock < 2 ^ 64
 unfolding K.view
 clock_small k e = (stands k e).machine.in_time.clock_fits
 
@@ -132,7 +132,7 @@ image_sound : (s : List ℕ) → is_image s ≡ true → is_sound (state_of s) �
 unfolding is_image
 image_sound s e = (both_true (formed s) (is_sound (state_of s)) e).1
 
-tables_of : (s : List ℕ) → is_image s ≡ true → P.isSound (kernel_of s) ≡ true
+tables_of : (s : List ℕ) → is_image s ≡ true → P.is_sound (kernel_of s) ≡ true
 tables_of s e = tables_sound (state_of s) (image_sound s e)
 
 -- ## An image stays an image, and so over any calls
@@ -219,7 +219,7 @@ pub draws_machine : (m : State) (seed : ℕ) (p : Profile) → sound m ≡ true
 unfolding drawn_of drawn_in encode
 draws_machine m seed p e =
     let s = ((tests_state m).sure e).machine in
-    draws_state (encode m) seed p (encode_sound m e) ∙ rw (tables.encode-sound m.machine s, round.view-encode m.machine s)
+    draws_state (encode m) seed p (encode_sound m e) ∙ rw (tables.encode_sound m.machine s, round.view_encode m.machine s)
 
 -- an accepted draw is over an image, and is the generator's
 of_image : (s : List ℕ) (seed : ℕ) (p : Profile) → (draw_on s seed p).code ≡ 0 → (is_image s ≡ true) × (draw_on s seed p ≡ drawn_of (kernel_of s) seed p)
@@ -244,7 +244,7 @@ left_alone s seed p = go (is_image s)
 fine_small : (m : Machine) (p : draws.Profile) (c : Command) → Fine m p c → (c.op < 256) × (c.a < 256) × (c.b < 256)
 fine_small m p c f = (omega (arith, f.op.1), omega (arith, f.fits.0), omega (arith, f.fits.1))
 
-drawn_small : (k : Kernel) (seed : ℕ) (p : Profile) → P.isSound k ≡ true → (drawn_of k seed p).code ≡ 0
+drawn_small : (k : Kernel) (seed : ℕ) (p : Profile) → P.is_sound k ≡ true → (drawn_of k seed p).code ≡ 0
     → let c = (drawn_of k seed p).command in (c.op < 256) × (c.a < 256) × (c.b < 256)
 unfolding drawn_of drawn_in
 drawn_small k seed p s =
@@ -265,7 +265,7 @@ code_small s seed p = go (is_image s)
     go : (b : Bool) → (cond b (drawn_of (kernel_of s) seed p) (refused_of 1 seed)).code < 256
     go true =
         let k = kernel_of s in
-        rw (code_in_order k seed p) (first_small (not (P.isSound k)) (eqb seed 0) (not (good_profile (profile_of p))) (not k.started))
+        rw (code_in_order k seed p) (first_small (not (P.is_sound k)) (eqb seed 0) (not (good_profile (profile_of p))) (not k.started))
     go false = omega arith
 
 -- The answer unpacked, of operands that are bytes.
@@ -373,36 +373,36 @@ draws_39_there =
 
 -- ## A draw by even choices (edition 2) is so over the image, its state and document 01's machine
 pub draws_state_evenly : (k : whole.State) (seed : ℕ) (p : Profile) → is_sound k ≡ true
-    → draw_even_on (image_of k) seed p ≡ evenly.drawnOf k.kernel seed p
+    → draw_even_on (image_of k) seed p ≡ evenly.drawn_of k.kernel seed p
 unfolding draw_even_on
 draws_state_evenly k seed p e = let w = reads_back k e in rw (w.0, ap (λ (j : whole.State). j.kernel) w.1)
 
 pub draws_machine_evenly : (m : State) (seed : ℕ) (p : Profile) → sound m ≡ true
-    → draw_even_on (image_of (encode m)) seed p ≡ evenly.toldDrawn (drawn_evenly m.machine seed (profile_of p))
-unfolding evenly.drawnOf encode
+    → draw_even_on (image_of (encode m)) seed p ≡ evenly.told_drawn (drawn_evenly m.machine seed (profile_of p))
+unfolding evenly.drawn_of encode
 draws_machine_evenly m seed p e =
     let s = ((tests_state m).sure e).machine in
-    draws_state_evenly (encode m) seed p (encode_sound m e) ∙ rw (tables.encode-sound m.machine s, round.view-encode m.machine s)
+    draws_state_evenly (encode m) seed p (encode_sound m e) ∙ rw (tables.encode_sound m.machine s, round.view_encode m.machine s)
 
 -- The two ways of such a draw: refused, it is its code and the seed that came in; made, it is over an image, and the generator's.
 data EvenWay (s : List ℕ) (seed : ℕ) (p : Profile) : Type 0 where
-  refused : (code : ℕ) → code ≢ 0 → code < 256 → draw_even_on s seed p ≡ evenly.refusedOf code seed → EvenWay s seed p
-  made : is_image s ≡ true → (evenly.drawnOf (kernel_of s) seed p).code ≡ 0 → draw_even_on s seed p ≡ evenly.drawnOf (kernel_of s) seed p → EvenWay s seed p
+  refused : (code : ℕ) → code ≢ 0 → code < 256 → draw_even_on s seed p ≡ evenly.refused_of code seed → EvenWay s seed p
+  made : is_image s ≡ true → (evenly.drawn_of (kernel_of s) seed p).code ≡ 0 → draw_even_on s seed p ≡ evenly.drawn_of (kernel_of s) seed p → EvenWay s seed p
 
 even_way : (s : List ℕ) (seed : ℕ) (p : Profile) → EvenWay s seed p
 unfolding draw_even_on
-even_way s seed p = go (is_image s) refl (eqb (evenly.drawnOf (kernel_of s) seed p).code 0) refl
+even_way s seed p = go (is_image s) refl (eqb (evenly.drawn_of (kernel_of s) seed p).code 0) refl
   where
-    small : (evenly.drawnOf (kernel_of s) seed p).code < 256
+    small : (evenly.drawn_of (kernel_of s) seed p).code < 256
     small =
         let k = kernel_of s in
-        rw (evenly-shipped.code-in-order k seed p) (first_small (not (P.isSound k)) (eqb seed 0) (not (good_profile (profile_of p))) (not k.started))
+        rw (evenly-shipped.code-in-order k seed p) (first_small (not (P.is_sound k)) (eqb seed 0) (not (good_profile (profile_of p))) (not k.started))
 
-    go : (b : Bool) → is_image s ≡ b → (z : Bool) → eqb (evenly.drawnOf (kernel_of s) seed p).code 0 ≡ z → EvenWay s seed p
+    go : (b : Bool) → is_image s ≡ b → (z : Bool) → eqb (evenly.drawn_of (kernel_of s) seed p).code 0 ≡ z → EvenWay s seed p
     go false i z e = refused 1 (λ n. omega (arith, n)) (omega arith) (rw i)
     go true i true e = made i (eqb-true _ 0 e) (rw i)
     go true i false e =
-        let n = eqb-false _ 0 e in refused (evenly.drawnOf (kernel_of s) seed p).code n small (rw i (evenly-shipped.refused-leaves (kernel_of s) seed p n))
+        let n = eqb-false _ 0 e in refused (evenly.drawn_of (kernel_of s) seed p).code n small (rw i (evenly-shipped.refused-leaves (kernel_of s) seed p n))
 
 pub left_alone_evenly : (s : List ℕ) (seed : ℕ) (p : Profile) → (draw_even_on s seed p).code ≢ 0 → (draw_even_on s seed p).seed ≡ seed
 left_alone_evenly s seed p n = go (even_way s seed p)
@@ -411,9 +411,9 @@ left_alone_evenly s seed p n = go (even_way s seed p)
     go (refused code k small q) = ap (λ (d : counted.Drawn). d.seed) q
     go (made i z q) = absurd (n (ap (λ (d : counted.Drawn). d.code) q ∙ z))
 
-drawn_small_evenly : (k : Kernel) (seed : ℕ) (p : Profile) → P.isSound k ≡ true → (evenly.drawnOf k seed p).code ≡ 0
-    → let c = (evenly.drawnOf k seed p).command in (c.op < 256) × (c.a < 256) × (c.b < 256)
-unfolding evenly.drawnOf drawn_evenly
+drawn_small_evenly : (k : Kernel) (seed : ℕ) (p : Profile) → P.is_sound k ≡ true → (evenly.drawn_of k seed p).code ≡ 0
+    → let c = (evenly.drawn_of k seed p).command in (c.op < 256) × (c.a < 256) × (c.b < 256)
+unfolding evenly.drawn_of drawn_evenly
 drawn_small_evenly k seed p s =
     rw s (λ e. fine_small _ _ _ (drawn_by_is_fine even even_chooses (K.view k) seed (profile_of p) ((tests_sound (K.view k)).found (stands k s).machine) e))
 
@@ -423,17 +423,17 @@ module _ (s : List ℕ) (seed span : ℕ) (weights : List ℕ) (value : ℕ) whe
   found_evenly = draw_even_on s seed (told_profile span weights)
 
   made_evenly : draw_even_answer s seed span weights % 256 ≡ 0
-      → (is_image s ≡ true) × (found_evenly ≡ evenly.drawnOf (kernel_of s) seed (told_profile span weights)) × (found_evenly.code ≡ 0)
+      → (is_image s ≡ true) × (found_evenly ≡ evenly.drawn_of (kernel_of s) seed (told_profile span weights)) × (found_evenly.code ≡ 0)
   unfolding draw_even_answer
   made_evenly e = go (even_way s seed (told_profile span weights))
     where
       go : EvenWay s seed (told_profile span weights)
-          → (is_image s ≡ true) × (found_evenly ≡ evenly.drawnOf (kernel_of s) seed (told_profile span weights)) × (found_evenly.code ≡ 0)
+          → (is_image s ≡ true) × (found_evenly ≡ evenly.drawn_of (kernel_of s) seed (told_profile span weights)) × (found_evenly.code ≡ 0)
       go (refused code n small q) = absurd (n (omega (arith, e, small, ap packed_even q)))
       go (made i z q) = (i, q, ap (λ (d : counted.Drawn). d.code) q ∙ z)
 
   -- the generator's draw is made, too
-  code_there : draw_even_answer s seed span weights % 256 ≡ 0 → (evenly.drawnOf (kernel_of s) seed (told_profile span weights)).code ≡ 0
+  code_there : draw_even_answer s seed span weights % 256 ≡ 0 → (evenly.drawn_of (kernel_of s) seed (told_profile span weights)).code ≡ 0
   code_there e = let w = made_evenly e in ap (λ (d : counted.Drawn). d.code) (sym w.1) ∙ w.2
 
   bytes_evenly : draw_even_answer s seed span weights % 256 ≡ 0 → let c = found_evenly.command in (c.op < 256) × (c.a < 256) × (c.b < 256)
@@ -492,7 +492,7 @@ unfolding draw_even_answer draw_even_seed draw_even_value
 draws_38_there =
     let p = told_profile 100 (10 ∷ 10 ∷ 10 ∷ 10 ∷ 10 ∷ 10 ∷ 10 ∷ 10 ∷ []) in
     let q = draws_machine_evenly worked 1 p worked_sound
-    ∙ (ap (λ (m : Machine). evenly.toldDrawn (drawn_evenly m 1 (profile_of p))) (runs_alike set_up fresh) ∙ ap evenly.toldDrawn drawn_rows.0) in (
+    ∙ (ap (λ (m : Machine). evenly.told_drawn (drawn_evenly m 1 (profile_of p))) (runs_alike set_up fresh) ∙ ap evenly.told_drawn drawn_rows.0) in (
       ap packed_even q,
       ap (λ (d : counted.Drawn). d.seed) q,
       ap (λ (d : counted.Drawn). cond (eqb d.code 0) d.command.value 0) q,

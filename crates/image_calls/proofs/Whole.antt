@@ -69,4 +69,4 @@ unfolding step_of answer view
 answer_small st c e =
     let m = K.view st.kernel in
     let s = (stands st.kernel (tables_sound st e)).machine in
-    rw e (code_few m c, running_few (R.next m c) (Rules.next-sound m s c), released_few m s c)
+    rw e (code_few m c, running_few (R.next m c) (Rules.next_sound m s c), released_few m s c)

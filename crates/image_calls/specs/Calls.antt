@@ -108,7 +108,7 @@ draw_step_image s seed span weights =
 
 -- A draw by even choices (edition 2): the same over that generator's draw, which tells the draws that it spent.
 unfoldable pub draw_even_on : List ℕ → ℕ → Profile → counted.Drawn
-draw_even_on s seed p = cond (is_image s) (evenly.drawnOf (kernel_of s) seed p) (evenly.refusedOf 1 seed)
+draw_even_on s seed p = cond (is_image s) (evenly.drawn_of (kernel_of s) seed p) (evenly.refused_of 1 seed)
 
 -- In one number: what is drawn, as a draw of edition 1 tells it, + 4294967296 * the draws spent, which are 0 for a
 -- refusal.

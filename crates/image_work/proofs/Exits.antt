@@ -202,20 +202,20 @@ module _ (s : List ℕ) (seed span : ℕ) (weights : List ℕ) (value : ℕ) {d 
   draw_ends p e f = (p ∙ ap packed_drawn drawing, e ∙ seed_so, f ∙ value_so)
 
 -- The draw by even choices.
-unsound_draw_evenly : (k : Kernel) (seed : ℕ) (p : Profile) → is_sound k ≡ false → evenly.drawnOf k seed p ≡ evenly.refusedOf 1 seed
-unfolding evenly.drawnOf
+unsound_draw_evenly : (k : Kernel) (seed : ℕ) (p : Profile) → is_sound k ≡ false → evenly.drawn_of k seed p ≡ evenly.refused_of 1 seed
+unfolding evenly.drawn_of
 unsound_draw_evenly k seed p e = rw e
 
 module _ (s : List ℕ) (seed : ℕ) (p : Profile) where
-  pub none_draw_evenly : readable s ≡ false → evenly.refusedOf 1 seed ≡ draw_even_on s seed p
+  pub none_draw_evenly : readable s ≡ false → evenly.refused_of 1 seed ≡ draw_even_on s seed p
   unfolding draw_even_on
   none_draw_evenly h = rw (unread s h)
 
-  pub answered_draw_evenly : readable s ≡ true → evenly.drawnOf (kernel_of s) seed p ≡ draw_even_on s seed p
+  pub answered_draw_evenly : readable s ≡ true → evenly.drawn_of (kernel_of s) seed p ≡ draw_even_on s seed p
   unfolding draw_even_on
   answered_draw_evenly h = rw (image_sound s h) (go (is_sound (kernel_of s)) refl)
     where
-      go : (b : Bool) → is_sound (kernel_of s) ≡ b → evenly.drawnOf (kernel_of s) seed p ≡ cond b (evenly.drawnOf (kernel_of s) seed p) (evenly.refusedOf 1 seed)
+      go : (b : Bool) → is_sound (kernel_of s) ≡ b → evenly.drawn_of (kernel_of s) seed p ≡ cond b (evenly.drawn_of (kernel_of s) seed p) (evenly.refused_of 1 seed)
       go true e = refl
       go false e = unsound_draw_evenly (kernel_of s) seed p e
 

@@ -276,7 +276,7 @@ pub fn draw(image: &[u8], seed: &mut u32, span: u64, weights: &[u32], value: &mu
 
 // The answer where there is no image.
 fn no_image_even(seed: u32) -> generator_evenly::Drawn
-    ensures { result ≡ evenly.refusedOf 1 seed }
+    ensures { result ≡ evenly.refused_of 1 seed }
 {
     generator_evenly::Drawn {
         code: 1,

@@ -22,7 +22,7 @@ fn pack(k: Kept) -> u64
 }
 
 fn reply_to(j: Judgement) -> Reply
-    ensures { result ≡ call.reply-to j }
+    ensures { result ≡ call.reply_to j }
 {
     let seed = j.seed;
     let verdict = j.verdict;

@@ -32,13 +32,13 @@ pub fn place_of(number: usize) -> usize
 }
 
 fn seed_shown(code: u8, value: u64, seed: u64) -> u64
-    ensures { result ≡ verdict.seed-shown code value seed }
+    ensures { result ≡ verdict.seed_shown code value seed }
 {
     if code == 17 { value } else { seed }
 }
 
 fn refused_at(code: u8, place: usize) -> Verdict
-    ensures { result ≡ behind.refused-at code place }
+    ensures { result ≡ behind.refused_at code place }
 {
     Verdict::Refused(Refusal {
         code,
@@ -49,7 +49,7 @@ fn refused_at(code: u8, place: usize) -> Verdict
 
 // The command of a record.
 pub fn command_of(t: Record) -> Command
-    ensures { result ≡ verdict.command-shown t }
+    ensures { result ≡ verdict.command_shown t }
 {
     Command {
         op: t.op,
@@ -113,7 +113,7 @@ pub fn compared(h: Head, t: Record, rules: Kept) -> Head
 // The verdict at the end of a tape, with so many bytes behind the last record: a record that is not whole is 15, and
 // so is a tape without a header.
 pub fn at_end(stage: Stage, place: usize, count: usize) -> Verdict
-    ensures { result ≡ behind.at-end stage place count }
+    ensures { result ≡ behind.at_end stage place count }
 {
     match stage {
         Stage::Over(v) => v,

@@ -150,7 +150,7 @@ impl Judge {
     // Whether a verdict is still to come. Behind it no piece changes anything (proofs/Whole, verdict-stays), so
     // nothing more need be read.
     pub fn goes_on(self) -> bool
-        ensures { result ≡ behind.to-come self.run.stage }
+        ensures { result ≡ behind.to_come self.run.stage }
     {
         let run = self.run;
         let stage = run.stage;
@@ -176,7 +176,7 @@ impl Judge {
 
 // What the program judge ends with: 0 agrees, 1 differs, 2 refused.
 pub fn status(v: Verdict) -> u8
-    ensures { result ≡ verdict.status-of v }
+    ensures { result ≡ verdict.status_of v }
 {
     match v {
         Verdict::Agrees(_) => 0,
@@ -187,7 +187,7 @@ pub fn status(v: Verdict) -> u8
 
 // The judgement of a whole tape.
 pub fn judged(tape: &[u8]) -> Judgement
-    ensures { result ≡ verdict.verdict-of tape.now }
+    ensures { result ≡ verdict.verdict_of tape.now }
 {
     Judge::fresh().feed(tape).end()
 }

@@ -115,7 +115,7 @@ module _ (m : Machine) (s : Sound m) where
   create_tie t p g = rw (tailed_pad new zero_act p t m.ready s.stand_once.ready_tasks g.rank.0)
     where
       new : Machine
-      new = T.with-set-up m (set m.base t p) m.ceiling m.started
+      new = T.with_set_up m (set m.base t p) m.ceiling m.started
 
       zero_act : active new 0 ≡ 0
       zero_act = act_free new 0 s.idle_ready.idle_free
@@ -170,7 +170,7 @@ module _ (m : Machine) (s : Sound m) where
       low = let z = all_at (λ p. p ≤ 15) m.base (runner m) 0 (omega arith) s.in_range.bases in omega arith
 
       new : Machine
-      new = T.with-hands m (set m.held (runner m) 0) (set m.way (runner m) 0)
+      new = T.with_hands m (set m.held (runner m) 0) (set m.way (runner m) 0)
 
       freed_hands : (l : List ℕ) (i : ℕ) → at l 0 ≡ 0 → at (set l i 0) 0 ≡ 0
       freed_hands [] i e = refl

@@ -50,7 +50,7 @@ fn carry(
 ) -> u8
     ensures { let behind = left base ready delayed held way until ceiling waiter clock started in
         Ends behind (step.accepted (running_of behind) result)
-        (step.carriedAs k (lent base ready delayed held way until ceiling waiter clock started) (to_rules c)) }
+        (step.carried_as k (lent base ready delayed held way until ceiling waiter clock started) (to_rules c)) }
 {
     let tops = *ceiling;
     match k {
@@ -88,7 +88,7 @@ pub fn step_trusting(
     c: Command,
 ) -> Answer
     ensures { Ends (left base ready delayed held way until ceiling waiter clock started) result
-        (step.steppedOf (lent base ready delayed held way until ceiling waiter clock started) (to_rules c)) }
+        (step.stepped_of (lent base ready delayed held way until ceiling waiter clock started) (to_rules c)) }
 {
     let tops = *ceiling;
     let waits = *waiter;

@@ -171,7 +171,7 @@ impl Kernel {
 
 // One more than the count of entries ahead, where there is such an entry and its time is at most the clock.
 fn due_count(ahead: u8, time: u64, clock: u64) -> u8
-    ensures { result ≡ step.dueCount ahead time clock }
+    ensures { result ≡ step.due_count ahead time clock }
 {
     numbers::choose(
         (ahead < 32) & (time <= clock),

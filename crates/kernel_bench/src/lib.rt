@@ -16,7 +16,7 @@ fn shown(exception: bool) -> u64
 
 // A number that changes with any answer, on top of what was gathered.
 fn mixed(sum: u64, code: u8, running: u8, released: u8, exception: bool) -> u64
-    ensures { result ≡ stream.mixedOf sum code running released exception }
+    ensures { result ≡ stream.mixed_of sum code running released exception }
 {
     let turned = std::num::wrapping_add_u64(
         sum % 576460752303423488 * 31,

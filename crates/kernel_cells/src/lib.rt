@@ -18,7 +18,7 @@ pub const WAITING: u8 = 3;
 // A task's base is in range, it stands once where it is created and nowhere else, and it holds an object in one of two
 // ways, if it is ready.
 fn task_fits(base: u8, place: u8, held: u8, way: u8) -> bool
-    ensures { result ≡ cells.taskFits base place held way }
+    ensures { result ≡ cells.task_fits base place held way }
 {
     let stands = (base == 0) & (place == 0) | !(base == 0) & !(place == 0);
     let hands = (held == 0) & (way == 0) | !(held == 0) & !(way == 0) & (place == READY);
@@ -32,7 +32,7 @@ pub fn tasks_fit<'a>(
     held: &'a [u8; 32],
     way: &'a [u8; 32],
 ) -> bool
-    ensures { result ≡ cells.tasksFit base.now place.now held.now
+    ensures { result ≡ cells.tasks_fit base.now place.now held.now
         way.now }
 {
     let mut fit = true;
@@ -46,7 +46,7 @@ pub fn tasks_fit<'a>(
 
 // Only a delayed task has a time.
 pub fn times_fit<'a>(until: &'a [u64; 32], place: &'a [u8; 32]) -> bool
-    ensures { result ≡ cells.timesFit until.now place.now }
+    ensures { result ≡ cells.times_fit until.now place.now }
 {
     let mut fit = true;
     let mut t = 0;

@@ -8,7 +8,7 @@ use kernel_objects::admits;
 
 // Each holder may hold its object, and no other holds it.
 pub fn holders_fit<'a>(base: &'a [u8; 32], held: &'a [u8; 32], ceiling: [u8; 8]) -> bool
-    ensures { result ≡ cells.holdersFit ceiling (replicate 8 0) base.now held.now }
+    ensures { result ≡ cells.holders_fit ceiling (replicate 8 0) base.now held.now }
 {
     let bases: &[u8] = base;
     let hands: &[u8] = held;

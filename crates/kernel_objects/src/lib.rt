@@ -15,14 +15,14 @@ pub fn admits(ceiling: u8, base: u8) -> bool
 
 // An object with its ceiling, who waits on it, and that task's base.
 fn object_fits(o: u8, ceiling: u8, w: u8, base: u8) -> bool
-    ensures { result ≡ cells.objectFits o ceiling w base }
+    ensures { result ≡ cells.object_fits o ceiling w base }
 {
     let null = !(o == 0) | (ceiling == 0);
     null & (ceiling <= 15) & ((w == 0) | (w < 32) & admits(ceiling, base))
 }
 
 pub fn objects_fit(base: &[u8; 32], ceiling: [u8; 8], waiter: [u8; 8]) -> bool
-    ensures { result ≡ cells.objectsFit base.now ceiling waiter }
+    ensures { result ≡ cells.objects_fit base.now ceiling waiter }
 {
     let mut fit = true;
     let mut o = 0u8;

@@ -9,7 +9,7 @@ use kernel_cells::{DELAYED, READY, WAITING};
 
 // Before Start the clock is 0 and nothing is delayed, waiting or held.
 fn is_calm(started: bool, clock: u64, first: u8, waiter: [u8; 8], held: &[u8; 32]) -> bool
-    ensures { result ≡ test.isCalm started clock first waiter held.now }
+    ensures { result ≡ test.is_calm started clock first waiter held.now }
 {
     if started {
         return true;

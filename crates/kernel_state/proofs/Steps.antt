@@ -49,8 +49,8 @@ owner_few m s c = go (eqb (owner m c) 0) refl
     go false e = lt-ltb (owner m c) 32 (known m s (owner m c) (owner_stands m s c (eqb-false _ _ e)))
 
 -- A state is sound just when its tables are and what is pending is.
-pub sound_parts : (k : Kernel) (p : ℕ) → is_sound (both k p) ≡ (P.isSound k && pending_sound k.started k.base p)
-unfolding is_sound sound P.isSound view K.view
+pub sound_parts : (k : Kernel) (p : ℕ) → is_sound (both k p) ≡ (P.is_sound k && pending_sound k.started k.base p)
+unfolding is_sound sound P.is_sound view K.view
 sound_parts k p = regroup (tidy k) (S.sound (K.view k)) (pending_sound k.started k.base p)
   where
     regroup : (a b c : Bool) → (a && (b && c)) ≡ ((a && b) && c)
@@ -62,8 +62,8 @@ ran : (k : Kernel) → runner_in k.ready ≡ runner (K.view k)
 unfolding K.view
 ran k = sym (front_idle k.ready)
 
-stands : (k : Kernel) → P.isSound k ≡ true → Sound (K.view k)
-unfolding P.isSound
+stands : (k : Kernel) → P.is_sound k ≡ true → Sound (K.view k)
+unfolding P.is_sound
 stands k e = (tests_sound (K.view k)).sure (both_true (tidy k) (S.sound (K.view k)) e).1
 
 -- a refused command leaves the machine
@@ -73,12 +73,12 @@ unmoved m c e = rw e
 
 pub settles : (k : Kernel) (p : ℕ) (c : Command) → pending_sound k.started k.base p ≡ true → together k p c ≡ step_of (both k p) c
 unfolding step_of P.step_of next answer R.answer view encode
-settles k p c h = go (P.isSound k) (accepts (K.view k) c) refl refl
+settles k p c h = go (P.is_sound k) (accepts (K.view k) c) refl refl
   where
     m : Machine
     m = K.view k
 
-    go : (b ok : Bool) → P.isSound k ≡ b → accepts (K.view k) c ≡ ok → together k p c ≡ step_of (both k p) c
+    go : (b ok : Bool) → P.is_sound k ≡ b → accepts (K.view k) c ≡ ok → together k p c ≡ step_of (both k p) c
     go true true e a = rw (sound_parts k p, e, h, a, ran k, owner_few m (stands k e) c)
     go true false e a = rw (sound_parts k p, e, h, a, unmoved m c a)
     go false ok e a = rw (sound_parts k p, e)
@@ -96,17 +96,17 @@ made_of k p c h behind said w closer s a next_is said-is whose-is ran-is settled
 -- What is pending and not sound: Shape.
 pub step_unsound : (k : Kernel) (p : ℕ) (c : Command) → pending_sound k.started k.base p ≡ false → report (both k p) shape ≡ step_of (both k p) c
 unfolding step_of
-step_unsound k p c h = rw (sound_parts k p, h, and-false (P.isSound k))
+step_unsound k p c h = rw (sound_parts k p, h, and-false (P.is_sound k))
 
 -- "Wakes left" is the kernel's, which is 1 and 0 of unsound tables.
 pub left_unsound : (k : Kernel) (p t : ℕ) → pending_sound k.started k.base p ≡ false → record { code = 1; left = 0 } ≡ left_of (both k p) t
 unfolding left_of
-left_unsound k p t h = rw (sound_parts k p, h, and-false (P.isSound k))
+left_unsound k p t h = rw (sound_parts k p, h, and-false (P.is_sound k))
 
 pub left_sound : (k : Kernel) (p t : ℕ) → pending_sound k.started k.base p ≡ true → P.left_of k t ≡ left_of (both k p) t
 unfolding left_of P.left_of
-left_sound k p t h = go (P.isSound k) refl
+left_sound k p t h = go (P.is_sound k) refl
   where
-    go : (b : Bool) → P.isSound k ≡ b → P.left_of k t ≡ left_of (both k p) t
+    go : (b : Bool) → P.is_sound k ≡ b → P.left_of k t ≡ left_of (both k p) t
     go true e = rw (sound_parts k p, e, h)
     go false e = rw (sound_parts k p, e)

@@ -27,10 +27,10 @@ made_tables e = cc
 
 -- a sound state: its tables are, and what is pending is
 module _ (st : State) (e : is_sound st ≡ true) where
-  parts : (P.isSound st.kernel ≡ true) × (pending_sound st.kernel.started st.kernel.base st.pending ≡ true)
+  parts : (P.is_sound st.kernel ≡ true) × (pending_sound st.kernel.started st.kernel.base st.pending ≡ true)
   parts = both_true _ _ (sym (sound_parts st.kernel st.pending) ∙ e)
 
-  pub tables_sound : P.isSound st.kernel ≡ true
+  pub tables_sound : P.is_sound st.kernel ≡ true
   tables_sound = parts.0
 
   pub pending_is_sound : pending_sound st.kernel.started st.kernel.base st.pending ≡ true
@@ -56,11 +56,11 @@ module _ (s : X.State) (h : sound s ≡ true) where
   unfolding encode K.encode
   encode_sound =
       sound_parts (K.encode s.machine) s.pending
-      ∙ rw (tables.encode-sound s.machine held.machine, (tests_pending _ _ _).found held.pending)
+      ∙ rw (tables.encode_sound s.machine held.machine, (tests_pending _ _ _).found held.pending)
 
   pub view_encode : view (encode s) ≡ s
   unfolding encode view
-  view_encode = made (round.view-encode s.machine held.machine)
+  view_encode = made (round.view_encode s.machine held.machine)
 
   pub step_on : (c : Command) → step_of (encode s) c ≡ report (encode (next s c)) (answer s c)
   unfolding step_of
@@ -69,7 +69,7 @@ module _ (s : X.State) (h : sound s ≡ true) where
 -- a step leaves a sound state sound, and a refused one that very state
 pub step_sound : (st : State) (c : Command) → is_sound st ≡ true → is_sound (step_of st c).next ≡ true
 unfolding step_of
-step_sound st c e = rw e (encode_sound (next (view st) c) (exceptions.step-keeps-sound (view st) c (machine_sound st e)))
+step_sound st c e = rw e (encode_sound (next (view st) c) (exceptions.step_keeps_sound (view st) c (machine_sound st e)))
 
 pub refused_keeps : (st : State) (c : Command) → (step_of st c).answer.code ≢ 0 → ((step_of st c).next ≡ st) × ((step_of st c).answer.exception ≡ false)
 unfolding step_of
@@ -77,7 +77,7 @@ refused_keeps st c = go (is_sound st) refl
   where
     go : (b : Bool) → is_sound st ≡ b → let r = cond b (report (encode (next (view st) c)) (answer (view st) c)) (report st shape) in
         r.answer.code ≢ 0 → (r.next ≡ st) × (r.answer.exception ≡ false)
-    go true e n = let w = exceptions.refused-keeps (view st) c n in (ap encode w.0 ∙ written_back st e, w.1)
+    go true e n = let w = exceptions.refused_keeps (view st) c n in (ap encode w.0 ∙ written_back st e, w.1)
     go false e n = (refl, refl)
 
 -- the step of a sound state is the kernel's, and what is settled by its answer; so its code is the kernel's

@@ -42,7 +42,7 @@ pub extern "C" fn rvn_program_salvage() -> u32
 
 #[unsafe(no_mangle)]
 pub extern "C" fn rvn_program_show() -> u32
-    ensures { show.Done-refused-failed result }
+    ensures { show.DoneRefusedFailed result }
 {
     programs_show::run_asked() as u32
 }

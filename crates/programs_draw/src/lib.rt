@@ -45,8 +45,8 @@ fn put_header(out: &mut [u8]) -> usize
 
 fn put_lines(r: Reader, piece: &[u8], out: &mut [u8]) -> Read
     requires { (length piece.now ≤ draw_piece) × (draw_lent ≡ length out.old) }
-    ensures { (result.reader ≡ draws.piece-behind r piece.now)
-        × loops.Put result.at out.new (draws.piece-text r piece.now)
+    ensures { (result.reader ≡ draws.piece_behind r piece.now)
+        × loops.Put result.at out.new (draws.piece_text r piece.now)
         × InFront result.at out.new }
 {
     feed(r, piece, out)
@@ -54,7 +54,7 @@ fn put_lines(r: Reader, piece: &[u8], out: &mut [u8]) -> Read
 
 fn put_end(r: Reader, out: &mut [u8]) -> Printed
     requires { draw_lent ≡ length out.old }
-    ensures { (result.run ≡ draws.end-behind r) × loops.Put result.at out.new (draws.end-text r)
+    ensures { (result.run ≡ draws.end_behind r) × loops.Put result.at out.new (draws.end_text r)
         × InFront result.at out.new }
 {
     finish(r, out)
@@ -62,8 +62,8 @@ fn put_end(r: Reader, out: &mut [u8]) -> Printed
 
 fn put_draws(d: DrawRun, out: &mut [u8]) -> Printed
     requires { draw_lent ≡ length out.old }
-    ensures { (result.run ≡ draws.some-behind draw_lot d)
-        × loops.Put result.at out.new (draws.some-text draw_lot d) × InFront result.at out.new }
+    ensures { (result.run ≡ draws.some_behind draw_lot d)
+        × loops.Put result.at out.new (draws.some_text draw_lot d) × InFront result.at out.new }
 {
     draw_some(d, 384, out)
 }
@@ -71,7 +71,7 @@ fn put_draws(d: DrawRun, out: &mut [u8]) -> Printed
 // One read, what is printed for it, one write.
 fn one_piece(fd: i32, r: Reader, was: Went, given: bool, piece: &mut [u8], out: &mut [u8]) -> Turn
     requires { (length piece.old ≤ draw_piece) × (draw_lent ≡ length out.old) }
-    ensures { loops.Turned draws.piece-behind draws.piece-text r result.reader was result.went piece.new
+    ensures { loops.Turned draws.piece_behind draws.piece_text r result.reader was result.went piece.new
         out.new }
 {
     let came = read_piece(was, fd, piece);
@@ -98,7 +98,7 @@ fn one_piece(fd: i32, r: Reader, was: Went, given: bool, piece: &mut [u8], out: 
 // Nothing says that the input ends, so the turns are counted.
 fn all_pieces(fd: i32, headed: Went, piece: &mut [u8], out: &mut [u8]) -> Turn
     requires { (length piece.old ≤ draw_piece) × (draw_lent ≡ length out.old) }
-    ensures { loops.Looped draws.piece-behind draws.piece-text draw_wants draws.at_first result.reader
+    ensures { loops.Looped draws.piece_behind draws.piece_text draw_wants draws.at_first result.reader
         headed result.went }
 {
     let mut turns = 0u64;
@@ -122,7 +122,7 @@ fn all_pieces(fd: i32, headed: Went, piece: &mut [u8], out: &mut [u8]) -> Turn
 // The draws that are left, a lot to a write. Where a read or a write has failed there are none.
 fn all_draws(d: DrawRun, ended: Went, out: &mut [u8]) -> Went
     requires { draw_lent ≡ length out.old }
-    ensures { loops.Concluded (draws.some-text d.left d) ended result }
+    ensures { loops.Concluded (draws.some_text d.left d) ended result }
 {
     let mut run = d;
     let mut went = ended;
@@ -155,7 +155,7 @@ fn conclude(r: Reader, read: Went, out: &mut [u8]) -> Went
 
 // The header, the pieces, the end and the draws.
 fn work(fd: i32) -> Went
-    ensures { loops.Whole draws.piece-behind draw_wants draws.at_first (λ ps. draw_header ++ draws.printed
+    ensures { loops.Whole draws.piece_behind draw_wants draws.at_first (λ ps. draw_header ++ draws.printed
         draws.at_first ps) result }
 {
     let mut piece = [0u8; 384];
@@ -171,7 +171,7 @@ fn work(fd: i32) -> Went
 
 // It answers its status. What it reads and writes no contract can say; what it writes of the bytes read is session's.
 pub fn run(fd: i32) -> u8
-    ensures { loops.Done-or-failed result }
+    ensures { loops.DoneOrFailed result }
 {
     status(work(fd))
 }

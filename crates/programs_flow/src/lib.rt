@@ -55,7 +55,7 @@ pub fn brought(w: Went) -> usize
 
 // What a program answers: 0, or 3 where a read or a write failed.
 pub fn status(w: Went) -> u8
-    ensures { result ≡ flow.status-of w.kind }
+    ensures { result ≡ flow.status_of w.kind }
 {
     if 2 <= w.kind {
         return 3;
@@ -126,7 +126,7 @@ pub fn not_written(w: Went, name: &[u8], what: &[u8]) -> Went
 
 // The work stands as it stood where something was done with a file; else it is not, as it is said.
 pub fn checked(w: Went, done: bool, name: &[u8], what: &[u8]) -> Went
-    ensures { result ≡ flow.where-done done w }
+    ensures { result ≡ flow.where_done done w }
 {
     if done {
         return w;

@@ -119,7 +119,7 @@ fn work(fd: i32) -> Went
 
 // It answers its status. What it reads and writes no contract can say; what it writes of the bytes read is session's.
 pub fn run(fd: i32) -> u8
-    ensures { loops.Done-or-failed result }
+    ensures { loops.DoneOrFailed result }
 {
     status(work(fd))
 }

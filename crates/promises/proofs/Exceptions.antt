@@ -41,17 +41,17 @@ run_on : (cs : List Command) (x : X.State) → sound x ≡ true → run_state (e
 unfolding run_state run
 run_on [] x s = refl
 run_on (c ∷ cs) x s =
-    ap (λ r. run_state r.next cs) (step_on x s (to_rules c)) ∙ run_on cs (next x (to_rules c)) (theorems.step-keeps-sound x (to_rules c) s)
+    ap (λ r. run_state r.next cs) (step_on x s (to_rules c)) ∙ run_on cs (next x (to_rules c)) (theorems.step_keeps_sound x (to_rules c) s)
 
 answer_on : (x : X.State) → sound x ≡ true → (cs : List Command) (d : Command)
     → answer_behind (encode x) cs d ≡ (report (encode x) (answer (run x (map to_rules cs)) (to_rules d))).answer
 answer_on x s cs d =
     ap (λ z. (step_of z (to_rules d)).answer) (run_on cs x s)
-    ∙ ap (λ r. r.answer) (step_on (run x (map to_rules cs)) (theorems.run-keeps-sound x (map to_rules cs) s) (to_rules d))
+    ∙ ap (λ r. r.answer) (step_on (run x (map to_rules cs)) (theorems.run_keeps_sound x (map to_rules cs) s) (to_rules d))
 
 pub fresh_state_is_sound : FreshStateIsSound
 unfolding fresh_state
-fresh_state_is_sound = encode_sound fresh theorems.fresh-is-sound
+fresh_state_is_sound = encode_sound fresh theorems.fresh_is_sound
 
 pub state_step_keeps_sound : StateStepKeepsSound
 state_step_keeps_sound s c e = step_sound s (to_rules c) e
@@ -91,12 +91,12 @@ same_moves s c d w = go (is_sound s)
     x = view s
 
     moved : K.encode (next x c).machine ≡ K.encode (next x d).machine
-    moved = ap K.encode (theorems.machine-moves x c ∙ (w.0 ∙ sym (theorems.machine-moves x d)))
+    moved = ap K.encode (theorems.machine_moves x c ∙ (w.0 ∙ sym (theorems.machine_moves x d)))
 
     answered : plain (report s (answer x c)).answer ≡ plain (report s (answer x d)).answer
     answered =
         ap (λ (a : R.Answer). P.answer_of a.code a.running a.released)
-        (theorems.answers-alike x c ∙ (w.1 ∙ sym (theorems.answers-alike x d)))
+        (theorems.answers_alike x c ∙ (w.1 ∙ sym (theorems.answers_alike x d)))
 
     go : (b : Bool)
         → ((cond b (report (encode (next x c)) (answer x c)) (report s shape)).next.kernel
@@ -108,7 +108,7 @@ same_moves s c d w = go (is_sound s)
 
 pub closings_move_alike : ClosingsMoveAlike
 closings_move_alike =
-    let t = theorems.moves-alike in (
+    let t = theorems.moves_alike in (
       λ s a b v. same_moves s (cmd 12 a b v) (cmd 8 a b v) (t.0 (view s).machine a b v),
       (
         λ s a b v. same_moves s (cmd 13 a b v) (cmd 9 a b v) (t.1.0 (view s).machine a b v),
@@ -128,7 +128,7 @@ same_steps s c d w =
 pub second_changes_nothing : SecondChangesNothing
 unfolding view
 second_changes_nothing =
-    let t = theorems.second-changes-nothing in (
+    let t = theorems.second_changes_nothing in (
       λ s a b v h. same_steps s (cmd 12 a b v) (cmd 8 a b v) (t.0 (view s) a b v h),
       (
         λ s a b v h. same_steps s (cmd 13 a b v) (cmd 9 a b v) (t.1.0 (view s) a b v h),
@@ -171,7 +171,7 @@ whose_it_is s c e = rw e (λ ok. ran s e (to_rules c) (eq-eqb _ 0 ok) (whose_of 
 shown_on : (x : X.State) → sound x ≡ true → (cs : List Command) (d : Command) → let a = answer_behind (encode x) cs d in let t = a.running.0 in
     t ≢ 0 → (a.exception ≡ true)
     ↔ ((a.code ≡ 0) × (Unshown t x (map to_rules cs) ⊎ (sets (run x (map to_rules cs)) (to_rules d) t ≡ true)))
-shown_on x s cs d = rw (answer_on x s cs d) (theorems.shown-exactly x (map to_rules cs) (to_rules d))
+shown_on x s cs d = rw (answer_on x s cs d) (theorems.shown_exactly x (map to_rules cs) (to_rules d))
 
 pub shown_exactly : ShownExactly
 shown_exactly s cs d e = rw (written_back s e) at (shown_on (view s) (machine_sound s e) cs d)
@@ -180,11 +180,11 @@ pub idle_shows_none : IdleShowsNone
 idle_shows_none s cs d e = rw (written_back s e) at (idle_on (view s) (machine_sound s e))
   where
     idle_on : (x : X.State) → sound x ≡ true → (answer_behind (encode x) cs d).running.0 ≡ 0 → (answer_behind (encode x) cs d).exception ≡ false
-    idle_on x k = rw (answer_on x k cs d) (theorems.idle-never x (map to_rules cs) (to_rules d) (idle_none ((tests_state x).sure k)))
+    idle_on x k = rw (answer_on x k cs d) (theorems.idle_never x (map to_rules cs) (to_rules d) (idle_none ((tests_state x).sure k)))
 
 pub none_unset : NoneUnset
 unfolding fresh_state
-none_unset cs d = rw (answer_on fresh theorems.fresh-is-sound cs d) (theorems.fresh-none-unset (map to_rules cs) (to_rules d))
+none_unset cs d = rw (answer_on fresh theorems.fresh_is_sound cs d) (theorems.fresh_none_unset (map to_rules cs) (to_rules d))
 
 pub refused_keeps_all : RefusedKeepsAll
 refused_keeps_all s c = refused_keeps s (to_rules c)

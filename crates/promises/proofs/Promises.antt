@@ -161,24 +161,24 @@ lower_on n s t low object f after k lt =
 pub released_by_these : ReleasedByThese
 unfolding answer
 released_by_these before c =
-    rw (run_from_fresh before, step_on (behind before) (behind_sound before) (to_rules c)) (λ z. rules.released-by-these (map to_rules before) (to_rules c) z)
+    rw (run_from_fresh before, step_on (behind before) (behind_sound before) (to_rules c)) (λ z. rules.released_by_these (map to_rules before) (to_rules c) z)
 
 pub open_serves : OpenServes
 unfolding answer
 open_serves before c = rw (run_from_fresh before, step_on (behind before) (behind_sound before) (to_rules c)) (λ ok op b.
-    let w = rules.open-serves (map to_rules before) (to_rules c) (eq-eqb _ 0 ok) op b in
+    let w = rules.open_serves (map to_rules before) (to_rules c) (eq-eqb _ 0 ok) op b in
     (w.0 ∙ sym (waiting (behind before) c.a), waiting (next (behind before) (to_rules c)) c.a ∙ ap (front 0) w.1))
 
 pub shut_serves_nobody : ShutServesNobody
 unfolding answer
 shut_serves_nobody before c = rw (run_from_fresh before, step_on (behind before) (behind_sound before) (to_rules c)) (λ ok op b.
-    let w = rules.shut-serves-nobody (map to_rules before) (to_rules c) (eq-eqb _ 0 ok) op b in
+    let w = rules.shut_serves_nobody (map to_rules before) (to_rules c) (eq-eqb _ 0 ok) op b in
     (w.0, waiters (next (behind before) (to_rules c)) ∙ ap (λ (q : List (List ℕ)). map (front 0) q) w.1 ∙ sym (waiters (behind before))))
 
 pub release_promise : ReleasePromise
 unfolding answer
 release_promise before c = rw (run_from_fresh before, step_on (behind before) (behind_sound before) (to_rules c)) (λ z.
-    let w = rules.release-promise (map to_rules before) (to_rules c) z in
+    let w = rules.release_promise (map to_rules before) (to_rules c) z in
     let n = next (behind before) (to_rules c) in
     (w.0, w.1, lower_on n (next_sound (behind before) (behind_sound before) (to_rules c)) (released (behind before) (to_rules c)) w.0 w.1 w.2))
 
@@ -190,5 +190,5 @@ unfolding answer
 idle_does_not_run before c after = rw (run_from_fresh before, step_on (behind before) (behind_sound before) (to_rules c)) (λ z ks e.
     let n = next (behind before) (to_rules c) in
     let s = next_sound (behind before) (behind_sound before) (to_rules c) in
-    rules.idle-does-not-run (map to_rules before) (to_rules c) (map to_rules after) z (never_ran n s (released (behind before) (to_rules c)) after ks)
+    rules.idle_does_not_run (map to_rules before) (to_rules c) (map to_rules after) z (never_ran n s (released (behind before) (to_rules c)) after ks)
     (sym (running_behind n s after) ∙ e))

@@ -71,7 +71,7 @@ module _ (m : Machine) (s : Sound m) where
   pub due_in : (t r : ℕ) → DueAt m t r → DueIn (encode m) t r
   due_in t r d = record {
     task = task_tie r ∙ d.task;
-    there = W.not-idle m s t r d;
+    there = W.not_idle m s t r d;
     due = (let z : at (encode m).until t ≡ (get_or m.delay r (0, 0)).0 = rw d.task at (time_tie r d.inside) in omega (arith, z, d.due, clock_tie m));
   }
 

@@ -11,7 +11,7 @@ use queue::Queue;
 
 // A number that changes with who is the soonest, and until when, on top of what was gathered.
 fn mixed(sum: u64, task: u8, time: u64) -> u64
-    ensures { result ≡ stream.mixedOf sum task time }
+    ensures { result ≡ stream.mixed_of sum task time }
 {
     let turned = std::num::wrapping_add_u64(
         sum % 576460752303423488 * 31,
@@ -30,7 +30,7 @@ fn lesser(x: usize, y: usize) -> usize
 
 // A turn: task t is inserted until v; for t = 0 a Wake at the clock v.
 fn queue_turn(t: u8, v: u64, q: Queue) -> Queue
-    ensures { result ≡ stream.queueTurn t v q }
+    ensures { result ≡ stream.queue_turn t v q }
 {
     if t == 0 {
         queue::wake(v, q)
@@ -42,7 +42,7 @@ fn queue_turn(t: u8, v: u64, q: Queue) -> Queue
 // A stream of such turns, from the queue in which nobody is delayed: a gathering of who is the soonest behind each.
 #[unsafe(no_mangle)]
 pub extern "C" fn queue_bench_chip(tasks: &[u8], values: &[u64], sum: u64) -> u64
-    ensures { result ≡ stream.by-chip tasks.now values.now sum }
+    ensures { result ≡ stream.by_chip tasks.now values.now sum }
 {
     let n = lesser(tasks.len(), values.len());
     let mut q = queue::none();
@@ -60,8 +60,8 @@ pub extern "C" fn queue_bench_chip(tasks: &[u8], values: &[u64], sum: u64) -> u6
 // ---- the delay line: as kernel_time and kernel_wake keep it, without the ready line
 
 fn line_put(delayed: &mut [u8; 32], until: &mut [u64; 32], t: TaskID, v: u64)
-    ensures { (delayed.new ≡ stream.putLine delayed.old until.old t.0 v)
-        × (until.new ≡ stream.putTime until.old t.0 v) }
+    ensures { (delayed.new ≡ stream.put_line delayed.old until.old t.0 v)
+        × (until.new ≡ stream.put_time until.old t.0 v) }
 {
     kernel_place::put_time(delayed, until, v, t);
     kernel_line::set_time(until, t, v);
@@ -76,7 +76,7 @@ fn due(delayed: &[u8; 32], until: &[u64; 32], clock: u64) -> u8
 
 fn line_wake(delayed: &mut [u8; 32], until: &mut [u64; 32], clock: u64)
     ensures { let d = delayed.old in let u = until.old in
-        (delayed.new ≡ stream.wakeLine d u clock) × (until.new ≡ stream.wakeTime d u clock) }
+        (delayed.new ≡ stream.wake_line d u clock) × (until.new ≡ stream.wake_time d u clock) }
 {
     let t = due(delayed, until, clock);
     if t != 0 {
@@ -88,7 +88,7 @@ fn line_wake(delayed: &mut [u8; 32], until: &mut [u64; 32], clock: u64)
 // A turn, as above.
 fn line_turn(delayed: &mut [u8; 32], until: &mut [u64; 32], t: u8, v: u64)
     ensures { let d = delayed.old in let u = until.old in
-        (delayed.new ≡ stream.lineTurn d u t v) × (until.new ≡ stream.timeTurn d u t v) }
+        (delayed.new ≡ stream.line_turn d u t v) × (until.new ≡ stream.time_turn d u t v) }
 {
     if t == 0 {
         line_wake(delayed, until, v)
@@ -100,7 +100,7 @@ fn line_turn(delayed: &mut [u8; 32], until: &mut [u64; 32], t: u8, v: u64)
 // The same stream, by the delay line.
 #[unsafe(no_mangle)]
 pub extern "C" fn queue_bench_line(tasks: &[u8], values: &[u64], sum: u64) -> u64
-    ensures { result ≡ stream.by-line tasks.now values.now sum }
+    ensures { result ≡ stream.by_line tasks.now values.now sum }
 {
     let n = lesser(tasks.len(), values.len());
     let mut delayed = [0u8; 32];

@@ -165,7 +165,7 @@ moved_sound m s c p g = record {
 }
 
 pub fresh_sound : Sounds fresh
-fresh_sound = record { machine = Rules.fresh-sound; pending = record { few = omega arith; whose = λ t e. absurd (true≢false (sym e ∙ has_none t)) } }
+fresh_sound = record { machine = Rules.fresh_sound; pending = record { few = omega arith; whose = λ t e. absurd (true≢false (sym e ∙ has_none t)) } }
 
 pub next_sound : (s : State) → Sounds s → (c : Command) → Sounds (next s c)
 unfolding next
@@ -176,7 +176,7 @@ next_sound s k c = go (accepts s.machine c) refl
 
     go : (b : Bool) → accepts m c ≡ b → Sounds (cond b (record { machine = R.next m c; pending = cleared (pending_then s c) (running (R.next m c)) }) s)
     go true e = record {
-      machine = Rules.next-sound m k.machine c;
+      machine = Rules.next_sound m k.machine c;
       pending = cleared_sound _ _ _ _ (moved_sound m k.machine c _ (pending_then_sound m k.machine c e s.pending k.pending));
     }
     go false e = k

@@ -36,7 +36,7 @@ use Rattle.salvage_marks.proofs.Chained as chained
 -- Kept records times 16 plus the listed lengths is the old tape's length.
 -- Rules out: a byte that is neither kept nor listed, or both.
 pub adds_up : (s : List ℕ) → 16 * length (found s) + total (dropped s) ≡ length s
-adds_up s = whole.each-byte s
+adds_up s = whole.each_byte s
 
 -- The stretches stand in order. Each has a byte and lies on the tape. Between two of them stand 16 bytes, or 32, or another multiple of 16; before the first
 -- and behind the last stands a multiple of 16 bytes too, and there it may be none.
@@ -58,7 +58,7 @@ cut_out s = places.cut_out s
 -- are the kept records, whole, each at the bytes where it was.
 -- Rules out: a count of records that the new tape does not hold.
 pub new_tape : (s : List ℕ) → Bytes s → kept s ≡ tape_of (found s)
-new_tape s b = reader.new-tape s b
+new_tape s b = reader.new_tape s b
 
 -- An undamaged tape, one that the reader reads to its end, comes out the same, with an empty list.
 -- Rules out: a salvage that drops a record of a good tape.
@@ -68,95 +68,95 @@ undamaged s b rs e = whole.whole_same s (reader.read_whole s b rs e)
 -- Salvaging the new tape changes nothing more.
 -- Rules out: a new tape with a byte that belongs to no record.
 pub twice : (s : List ℕ) → (kept (kept s) ≡ kept s) × (dropped (kept s) ≡ [])
-twice s = whole.whole_same (kept s) (whole.new-whole s)
+twice s = whole.whole_same (kept s) (whole.new_whole s)
 
 -- ---- Which records are kept
 
 -- A byte is kept exactly if it belongs to a kept record.
 -- Rules out: a record that is kept in part.
 pub by_records : (s : List ℕ) (i : ℕ) → (byte_kept s i ≡ true) ↔ ((at : ℕ) × Has s at i)
-by_records s i = (lost.kept-of-record s i, λ h. lost.record-kept s i h.0 h.1)
+by_records s i = (lost.kept_of_record s i, λ h. lost.record_kept s i h.0 h.1)
 
 -- A record is kept only where it makes one: a header at byte 0, a command record anywhere.
 -- Rules out: a header that is kept anywhere else.
 pub kept_stands : (s : List ℕ) (at : ℕ) → kept_at s at ≡ true → stands s at ≡ true
-kept_stands s at h = lost.kept-stands s at h
+kept_stands s at h = lost.kept_stands s at h
 
 -- Of the records that stand on a torn tape exactly those are lost into which a kept record reaches that begins before them.
 -- Rules out: a salvage that keeps the later of two records that overlap, or neither.
 pub lost_exactly : (s : List ℕ) (at : ℕ) → stands s at ≡ true → (kept_at s at ≡ false) ↔ ((before : ℕ) × (before < at) × Has s before at)
-lost_exactly s at h = (lost.lost-under s at h, λ x. lost.under-lost s at x.0 x.1 x.2)
+lost_exactly s at h = (lost.lost_under s at h, λ x. lost.under_lost s at x.0 x.1 x.2)
 
 -- A record right behind a kept one is kept. With `lost_exactly`: records that stand one behind another are all kept exactly if no kept record that begins
 -- before the first of them reaches into it. So damage behind a kept record loses none of the records behind it exactly if no kept record that begins in the
 -- damage reaches past its end.
 -- Rules out: a salvage that skips a record.
 pub next_kept : (s : List ℕ) (at : ℕ) → kept_at s at ≡ true → stands s (at + 16) ≡ true → kept_at s (at + 16) ≡ true
-next_kept s at k h = lost.next-kept s at k h
+next_kept s at k h = lost.next_kept s at k h
 
 -- ---- The new tape and the reader
 
 -- Where a header was kept, the new tape is a tape: the reader finds the kept records on it, each in turn, and then the end.
 -- Rules out: a kept header that the reader refuses, and one kept anywhere else.
 pub reads_back : (s : List ℕ) → Bytes s → headed s ≡ true → answers (suc (length (found s))) (kept s) 0 ≡ found_all 0 (found s)
-reads_back s b e = reader.reads-back s b e
+reads_back s b e = reader.reads_back s b e
 
 -- Where none was kept, the new tape is a tape behind any header: the reader finds that header, then the kept records, each in turn, and then the end.
 pub reads_under : (s : List ℕ) → Bytes s → headed s ≡ false → (h : Record) → fault_of 0 h ≡ 0
     → answers (suc (suc (length (found s)))) (bytes_of h ++ kept s) 0 ≡ found_all 0 (h ∷ found s)
-reads_under s b e h f = reader.reads-under s b e h f
+reads_under s b e h f = reader.reads_under s b e h f
 
 -- The new tape begins with a header exactly where the salvage says so.
 -- Rules out: a header on a new tape that is said to have none.
 pub header_kept : (s : List ℕ) → headed (kept s) ≡ headed s
-header_kept s = reader.header-kept s
+header_kept s = reader.header_kept s
 
 -- ---- Damage that loses no record: what the new tape and the list are then (`next_kept` says exactly which damage it is)
 
 -- Records that the writer takes one behind another are whole: every byte of them is kept. From byte 0 on the first of them is a header; from any other place
 -- on all are command records.
 pub records_whole : (n at : ℕ) (rs : List Record) → Takes n at rs → Whole (eqb at 0) (tape_of rs)
-records_whole n at rs t = reader.tape-whole n at rs t
+records_whole n at rs t = reader.tape_whole n at rs t
 
 -- The torn tape begins with records, a; then come gaps, each with records behind it; then its end. If no command record begins in junk or in the end, all the
 -- records are kept, and the list is the junk and the end, and nothing else.
 -- Rules out: a salvage that misses a record behind damage.
 pub none_lost : (a : List ℕ) (gs : List Gap) (end : List ℕ) → 0 < length a → Whole true a → LosesNone gs end
     → (kept (a ++ torn_at gs end) ≡ a ++ saved gs) × (dropped (a ++ torn_at gs end) ≡ gaps (length a) gs end)
-none_lost a gs end o w n = (damage.none-lost a gs end o w n, damage.all_listed a gs end o w n)
+none_lost a gs end o w n = (damage.none_lost a gs end o w n, damage.all_listed a gs end o w n)
 
 -- The same of a torn tape that begins with a gap: it begins in the middle, or with junk, or its header is spoilt or cut out. No header stands at its byte 0.
 -- Rules out: a salvage that wants a header, or a record at byte 0.
 pub none_lost_headless : (gs : List Gap) (end : List ℕ) → headed (torn_at gs end) ≡ false → LosesNone gs end
     → (kept (torn_at gs end) ≡ saved gs) × (dropped (torn_at gs end) ≡ gaps 0 gs end)
-none_lost_headless gs end h n = (damage.front_kept gs end n h, damage.front-listed gs end n h)
+none_lost_headless gs end h n = (damage.front_kept gs end n h, damage.front_listed gs end n h)
 
 -- A tape that begins with command records has no header at byte 0: so where the first gap has no junk, `none_lost_headless` asks nothing more.
 pub commands_first : (a r : List ℕ) → 0 < length a → Whole false a → headed (a ++ r) ≡ false
-commands_first a r o w = reader.commands-first a r o w
+commands_first a r o w = reader.commands_first a r o w
 
 -- Fewer than 16 bytes behind the last record are no record: a tape that was cut off anywhere loses only the record that was cut.
 pub cut_short : (x : List ℕ) → length x ≤ 15 → LosesNone [] x
-cut_short x o = damage.short-clear x o
+cut_short x o = damage.short_clear x o
 
 -- ---- Room
 
 -- Code 0 exactly if the records and the list fit the buffers, and 16 exactly if not.
 -- Rules out: a salvage refused that would fit, and one that is not refused and does not.
 pub room_exactly : (s : List ℕ) (n m : ℕ) → Answered s n m (salvaged_of s n m)
-room_exactly s n m = told.room-exactly s n m
+room_exactly s n m = told.room_exactly s n m
 
 -- Code 16: both buffers are as they were.
 -- Rules out: a salvage that is refused after it wrote something.
 pub refused_untouched : (s out list out' list' : List ℕ) (r : Salvaged) → SalvagedTo s out list r out' list' → r.code ≡ 16 → (out' ≡ out) × (list' ≡ list)
-refused_untouched s out list out' list' r f z = told.salvage-refused s out list out' list' r f z
+refused_untouched s out list out' list' r f z = told.salvage_refused s out list out' list' r f z
 
 -- Code 0: the new tape stands at the front of the one buffer, 16 bytes for each record that is counted, and the list at the front of the other, two numbers
 -- for each stretch; what stands behind them is as it was.
 -- Rules out: counts that are not those of what was written.
 pub accepted_written : (s out list out' list' : List ℕ) (r : Salvaged) → SalvagedTo s out list r out' list' → r.code ≡ 0
     → Front (16 * r.records) (kept s) out out' × Front (2 * r.stretches) (cells (dropped s)) list list'
-accepted_written s out list out' list' r f z = told.salvage-written s out list out' list' r f z
+accepted_written s out list out' list' r f z = told.salvage_written s out list out' list' r f z
 
 -- ---- In pieces
 
@@ -165,30 +165,30 @@ accepted_written s out list out' list' r f z = told.salvage-written s out list o
 pub in_pieces : (ps : List (List ℕ)) {w c : List ℕ} {b : Bool} → Chain at_first [] ps w c b
     → (w ≡ kept (joined ps)) × (c ≡ cells (dropped (joined ps))) × (b ≡ headed (joined ps))
 unfolding kept dropped
-in_pieces ps x = chained.chain-whole x (omega arith) (omega arith)
+in_pieces ps x = chained.chain_whole x (omega arith) (omega arith)
 
 -- Code 0 exactly if the piece's end can be said in 64 bits and what is to be written and listed fits the buffers, and 16 exactly if not.
 -- Rules out: a piece that is refused for want of room that it does not need.
 pub piece_room_exactly : (t : Torn) (buf : List ℕ) (n m : ℕ) → PieceAnswered t buf n m (fed_of t buf n m)
-piece_room_exactly t buf n m = told.piece-room t buf n m
+piece_room_exactly t buf n m = told.piece_room t buf n m
 
 -- Code 16: both buffers are as they were.
 -- Rules out: a piece that is refused after something of it was written.
 pub piece_refused_untouched : (t : Torn) (buf out list out' list' : List ℕ) (r : Fed) → FedTo t buf out list r out' list' → r.code ≡ 16
     → (out' ≡ out) × (list' ≡ list)
-piece_refused_untouched t buf out list out' list' r f z = told.piece-refused t buf out list out' list' r f z
+piece_refused_untouched t buf out list out' list' r f z = told.piece_refused t buf out list out' list' r f z
 
 -- Code 0: what is kept of the piece stands at the front of the one buffer and what is listed at the front of the other, as many bytes and numbers as are
 -- counted; what stands behind them is as it was.
 pub piece_accepted_written : (t : Torn) (buf out list out' list' : List ℕ) (r : Fed) → FedTo t buf out list r out' list' → r.code ≡ 0
     → Front r.kept (written t buf) out out' × Front r.cells (cells (listed t buf)) list list'
-piece_accepted_written t buf out list out' list' r f z = told.piece-written t buf out list out' list' r f z
+piece_accepted_written t buf out list out' list' r f z = told.piece_written t buf out list out' list' r f z
 
 -- Code 0: fewer than 16 bytes are left for the next piece. So a buffer of fixed size serves a tape of any length.
 -- Rules out: a salvage that waits for more bytes than a record has.
 pub piece_held_few : (t : Torn) (buf out list out' list' : List ℕ) (r : Fed) → FedTo t buf out list r out' list' → r.code ≡ 0
     → (r.done ≤ length buf) × (length (drop r.done buf) ≤ 15)
-piece_held_few t buf out list out' list' r f z = told.piece-held t buf out list out' list' r f z
+piece_held_few t buf out list out' list' r f z = told.piece_held t buf out list out' list' r f z
 
 -- No piece is refused whose end can be said in 64 bits, over a buffer of as many bytes and one of a number for each whole 8 of them.
 pub piece_fits : (t : Torn) (buf : List ℕ) (n m : ℕ) → t.place + length buf ≤ last_place → length buf ≤ n → length buf < 8 * m + 8 → fed_fits t buf n m ≡ true

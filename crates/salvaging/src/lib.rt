@@ -39,7 +39,7 @@ fn least(x: u64, y: u64) -> u64
 // Whether a header stands at byte 0 is asked once, before the loops: these look for command records only, by a test
 // that is small enough to stand inside them.
 fn head(buf: &[u8], place: usize) -> usize
-    ensures { result ≡ walk.headSize place buf.now }
+    ensures { result ≡ walk.head_size place buf.now }
 {
     if place != 0 {
         return 0;
@@ -116,8 +116,8 @@ fn list_one(list: &mut [u64], j: usize, from: usize, at: usize) -> usize
 
 // What a pass would come to; nothing is written.
 fn measure(buf: &[u8], place: usize, begin: usize, size: usize) -> Passed
-    requires { (size ≡ walk.headSize place buf.now) × (begin ≤ place) × (place + length buf.now < 2 ^ 64) }
-    ensures { result ≡ walk.passedOf place begin buf.now }
+    requires { (size ≡ walk.head_size place buf.now) × (begin ≤ place) × (place + length buf.now < 2 ^ 64) }
+    ensures { result ≡ walk.passed_of place begin buf.now }
 {
     let mut at = size;
     let mut from = begin + size;
@@ -158,10 +158,10 @@ fn pass(
     ensures passed { result ≡ walk.passed_on buf.now place size begin size 0 }
     ensures out { out.new
         ≡ sets out.old size
-        (torn.pick (walk.to-go buf.now size) (drop size buf.now)) }
+        (torn.pick (walk.to_go buf.now size) (drop size buf.now)) }
     ensures list { list.new
         ≡ sets list.old 0
-        (torn.cells (pieces.ended begin (place + size) (walk.to-go buf.now size))) }
+        (torn.cells (pieces.ended begin (place + size) (walk.to_go buf.now size))) }
 {
     let mut at = size;
     let mut from = begin;
@@ -196,15 +196,15 @@ fn put(
     out: &mut [u8],
     list: &mut [u64],
 ) -> Passed
-    requires { (size ≡ walk.headSize place buf.now) × (begin ≤ place) × (place + length buf.now < 2 ^ 64)
-        × ((walk.passedOf place begin buf.now).kept ≤ length out.old)
-        × ((walk.passedOf place begin buf.now).cells ≤ length list.old) }
-    ensures passed { result ≡ walk.passedOf place begin buf.now }
+    requires { (size ≡ walk.head_size place buf.now) × (begin ≤ place) × (place + length buf.now < 2 ^ 64)
+        × ((walk.passed_of place begin buf.now).kept ≤ length out.old)
+        × ((walk.passed_of place begin buf.now).cells ≤ length list.old) }
+    ensures passed { result ≡ walk.passed_of place begin buf.now }
     ensures out { out.new
-        ≡ sets out.old 0 (torn.pick (walk.marked-at place buf.now) buf.now) }
+        ≡ sets out.old 0 (torn.pick (walk.marked_at place buf.now) buf.now) }
     ensures list { list.new
         ≡ sets list.old 0
-        (torn.cells (pieces.ended begin place (walk.marked-at place buf.now))) }
+        (torn.cells (pieces.ended begin place (walk.marked_at place buf.now))) }
 {
     keep_head(out, buf, size);
     pass(buf, place, begin + size, size, out, list)
@@ -214,17 +214,17 @@ fn put(
 
 // Long enough for any so many bytes, whatever they are.
 fn long_enough(many: usize, n: usize, m: usize) -> bool
-    ensures { result ≡ pieces.long-enough many n m }
+    ensures { result ≡ pieces.long_enough many n m }
 {
     (many <= n) & (many / 8 <= m)
 }
 
 // What is to be written and listed fits for sure, or is measured and fits.
 fn holds(buf: &[u8], place: usize, begin: usize, size: usize, n: usize, m: usize) -> bool
-    requires { (size ≡ walk.headSize place buf.now) × (begin ≤ place) × (place + length buf.now < 2 ^ 64) }
+    requires { (size ≡ walk.head_size place buf.now) × (begin ≤ place) × (place + length buf.now < 2 ^ 64) }
     ensures { result
-        ≡ (leb (walk.passedOf place begin buf.now).kept n
-        && leb (walk.passedOf place begin buf.now).cells m) }
+        ≡ (leb (walk.passed_of place begin buf.now).kept n
+        && leb (walk.passed_of place begin buf.now).cells m) }
 {
     if long_enough(buf.len(), n, m) {
         return true;
@@ -309,7 +309,7 @@ pub fn move_down(buf: &mut [u8], done: usize, n: usize) -> usize
 
 // A sum of places, at most the last place.
 fn reach(place: u64, n: u64) -> u64
-    ensures { result ≡ pieces.least (place + n) pieces.lastPlace }
+    ensures { result ≡ pieces.least (place + n) pieces.last_place }
 {
     if LAST_PLACE - place < n {
         return LAST_PLACE;

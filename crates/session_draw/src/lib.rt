@@ -64,7 +64,7 @@ pub fn begin() -> Reader
 
 // The course of a run; and a run of its parts.
 fn course_of(d: DrawRun) -> Course
-    ensures { stage.as-run d.kernel result ≡ d }
+    ensures { stage.as_run d.kernel result ≡ d }
 {
     let profile = d.profile;
     Course {
@@ -77,7 +77,7 @@ fn course_of(d: DrawRun) -> Course
 }
 
 fn run_of(kernel: Kernel, c: Course) -> DrawRun
-    ensures { result ≡ stage.as-run kernel c }
+    ensures { result ≡ stage.as_run kernel c }
 {
     let profile = c.profile;
     DrawRun {
@@ -107,7 +107,7 @@ fn take_line(
 ) -> Note
     ensures { stage.as_moved (tables base.new ready.new delayed.new
         held.new way.new until.new ceiling.new waiter.new
-        clock.new started.new) result ≡ stage.moved (stage.as-run (tables base.old
+        clock.new started.new) result ≡ stage.moved (stage.as_run (tables base.old
         ready.old delayed.old held.old way.old until.old
         ceiling.old waiter.old clock.old started.old) c)
         (held_bytes line) }
@@ -141,8 +141,8 @@ fn spoken(x: Drawn) -> Spoken
 }
 
 fn put_shown(out: &mut [u8], at: usize, shown: bool, row: Row) -> usize
-    ensures { (result ≡ place_after draw_room out.old at (program.shown-text shown row))
-        × (out.new ≡ contents_after draw_room out.old at (program.shown-text shown row)) }
+    ensures { (result ≡ place_after draw_room out.old at (program.shown_text shown row))
+        × (out.new ≡ contents_after draw_room out.old at (program.shown_text shown row)) }
 {
     if shown {
         return put_draw_line(out, at, row);
@@ -151,7 +151,7 @@ fn put_shown(out: &mut [u8], at: usize, shown: bool, row: Row) -> usize
 }
 
 pub fn header(out: &mut [u8]) -> usize
-    ensures { (result ≡ program.headed out.old) × (out.new ≡ program.headed-out out.old)
+    ensures { (result ≡ program.headed out.old) × (out.new ≡ program.headed_out out.old)
         × InFront result out.new }
 {
     put_draw_header(out, 0)
@@ -187,7 +187,7 @@ fn take_lines(
     piece: &[u8],
     out: &mut [u8],
 ) -> Through
-    ensures { program.Feeds (program.as-reader (tables base.old ready.old
+    ensures { program.Feeds (program.as_reader (tables base.old ready.old
         delayed.old held.old way.old until.old ceiling.old
         waiter.old clock.old started.old) course kept) piece.now
         out.old (program.as_read (tables base.new ready.new delayed.new
@@ -238,7 +238,7 @@ impl Through {
 // A piece of input. Where out has no room for a line for each byte of the piece and one more, nothing is done.
 pub fn feed(r: Reader, piece: &[u8], out: &mut [u8]) -> Read
     ensures { (result ≡ program.fed r piece.now out.old)
-        × (out.new ≡ program.fed-out r piece.now out.old)
+        × (out.new ≡ program.fed_out r piece.now out.old)
         × InFront result.at out.new }
 {
     let mut base = r.run.kernel.base;
@@ -284,9 +284,9 @@ pub fn feed(r: Reader, piece: &[u8], out: &mut [u8]) -> Read
 // A last line without a line end counts if it has a byte: its line end is fed.
 fn last_line(r: Reader, out: &mut [u8]) -> Read
     requires { 384 ≤ length out.old }
-    ensures { (result.reader.run ≡ (program.last-moved r).run)
-        × (result.at ≡ place_after draw_room out.old 0 (program.text_of (program.last-moved r)))
-        × (out.new ≡ contents_after draw_room out.old 0 (program.text_of (program.last-moved r))) }
+    ensures { (result.reader.run ≡ (program.last_moved r).run)
+        × (result.at ≡ place_after draw_room out.old 0 (program.text_of (program.last_moved r)))
+        × (out.new ≡ contents_after draw_room out.old 0 (program.text_of (program.last_moved r))) }
 {
     let held = r.held;
     if held.count == 0 {
@@ -298,7 +298,7 @@ fn last_line(r: Reader, out: &mut [u8]) -> Read
 // The end of the input: at most two lines.
 pub fn finish(r: Reader, out: &mut [u8]) -> Printed
     ensures { (result ≡ program.finished r out.old)
-        × (out.new ≡ program.finished-out r out.old) × InFront result.at out.new }
+        × (out.new ≡ program.finished_out r out.old) × InFront result.at out.new }
 {
     if out.len() < 384 {
         let d = r.run;
@@ -345,7 +345,7 @@ struct Lot {
 }
 
 fn printed_of(kernel: Kernel, t: Lot) -> Printed
-    ensures { result ≡ program.as-printed kernel t }
+    ensures { result ≡ program.as_printed kernel t }
 {
     Printed {
         run: run_of(kernel, t.course),
@@ -369,10 +369,10 @@ fn draw_through(
     most: usize,
     out: &mut [u8],
 ) -> Lot
-    ensures { program.DrawsSome (stage.as-run (tables base.old ready.old
+    ensures { program.DrawsSome (stage.as_run (tables base.old ready.old
         delayed.old held.old way.old until.old ceiling.old
         waiter.old clock.old started.old) course) most out.old
-        (program.as-printed (tables base.new ready.new delayed.new held.new
+        (program.as_printed (tables base.new ready.new delayed.new held.new
         way.new until.new ceiling.new waiter.new clock.new
         started.new) result) out.new }
 {
@@ -413,8 +413,8 @@ fn draw_through(
 
 // Some draws. Where out has no room for a line for each, nothing is done.
 pub fn draw_some(d: DrawRun, most: usize, out: &mut [u8]) -> Printed
-    ensures { (result ≡ program.some-drawn d most out.old)
-        × (out.new ≡ program.some-drawn-out d most out.old) × InFront result.at out.new }
+    ensures { (result ≡ program.some_drawn d most out.old)
+        × (out.new ≡ program.some_drawn_out d most out.old) × InFront result.at out.new }
 {
     let mut base = d.kernel.base;
     let mut ready = d.kernel.ready;

@@ -178,7 +178,7 @@ pub fn feed(w: Showing, only: u64, piece: &[u8], out: &mut [u8]) -> Fed
 // A last line without a line end counts if it has a byte.
 pub fn finish(w: Showing, only: u64, out: &mut [u8]) -> usize
     ensures { (result ≡ show.finished only w out.old)
-        × (out.new ≡ show.finished-out only w out.old) × InFront result out.new }
+        × (out.new ≡ show.finished_out only w out.old) × InFront result out.new }
 {
     let begun = w.held;
     if begun.count == 0 {
@@ -194,7 +194,7 @@ pub fn finish(w: Showing, only: u64, out: &mut [u8]) -> usize
 
 // How many lines there were in all, with a last one that has no line end.
 pub fn lines_seen(w: Showing) -> u64
-    ensures { result ≡ show.lines-seen w }
+    ensures { result ≡ show.lines_seen w }
 {
     let begun = w.held;
     if begun.count == 0 {

@@ -67,7 +67,7 @@ fn zeros(code: u8) -> Row
 
 // A line of zeros, and the draw is over.
 fn over_with(code: u8, c: Course) -> Note
-    ensures { (k : Kernel) → stage.as_moved k result ≡ stage.over-with code (stage.as-run k c) }
+    ensures { (k : Kernel) → stage.as_moved k result ≡ stage.over_with code (stage.as_run k c) }
 {
     let profile = c.profile;
     let over = Course {
@@ -85,7 +85,7 @@ fn over_with(code: u8, c: Course) -> Note
 }
 
 pub fn not_moved(c: Course) -> Note
-    ensures { (k : Kernel) → stage.as_moved k result ≡ stage.not-moved (stage.as-run k c) }
+    ensures { (k : Kernel) → stage.as_moved k result ≡ stage.not_moved (stage.as_run k c) }
 {
     Note {
         course: c,
@@ -96,7 +96,7 @@ pub fn not_moved(c: Course) -> Note
 
 // The first line.
 pub fn opened(c: Course, f: FirstLine) -> Note
-    ensures { (k : Kernel) → stage.as_moved k result ≡ stage.opened (stage.as-run k c) f }
+    ensures { (k : Kernel) → stage.as_moved k result ≡ stage.opened (stage.as_run k c) f }
 {
     if f.code != 0 {
         return over_with(f.code, c);
@@ -122,7 +122,7 @@ pub fn opened(c: Course, f: FirstLine) -> Note
 
 // A setup line of this number, by the row that is printed for it: an accepted start is the last.
 pub fn set_up(c: Course, n: u64, row: Row) -> Note
-    ensures { (k : Kernel) → stage.as_moved k result ≡ stage.set-by (stage.as-run k c) n row }
+    ensures { (k : Kernel) → stage.as_moved k result ≡ stage.set_by (stage.as_run k c) n row }
 {
     let starts = (row.op == 3) & (row.code == 0);
     let profile = c.profile;
@@ -142,7 +142,7 @@ pub fn set_up(c: Course, n: u64, row: Row) -> Note
 
 // The end of the input.
 pub fn end(c: Course) -> Note
-    ensures { (k : Kernel) → stage.as_moved k result ≡ stage.ended (stage.as-run k c) }
+    ensures { (k : Kernel) → stage.as_moved k result ≡ stage.ended (stage.as_run k c) }
 {
     if c.stage == FIRST_LINE {
         return over_with(14, c);

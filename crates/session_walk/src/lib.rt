@@ -24,7 +24,7 @@ pub fn begin() -> Walk
 }
 
 pub fn header(out: &mut [u8]) -> usize
-    ensures { (result ≡ walk.headed out.old) × (out.new ≡ walk.headed-out out.old)
+    ensures { (result ≡ walk.headed out.old) × (out.new ≡ walk.headed_out out.old)
         × InFront result out.new }
 {
     put_walk_header(out, 0)
@@ -108,7 +108,7 @@ impl Through {
 // A piece of input. Where out has no room for a line for each byte of the piece and one more, nothing is done.
 pub fn feed(w: Walk, piece: &[u8], out: &mut [u8]) -> Fed
     ensures { (result ≡ walk.fed w piece.now out.old)
-        × (out.new ≡ walk.fed-out w piece.now out.old)
+        × (out.new ≡ walk.fed_out w piece.now out.old)
         × InFront result.at out.new }
 {
     let mut base = w.kernel.base;
@@ -154,7 +154,7 @@ pub fn feed(w: Walk, piece: &[u8], out: &mut [u8]) -> Fed
 // A last line without a line end counts if it has a byte.
 pub fn finish(w: Walk, out: &mut [u8]) -> usize
     ensures { (result ≡ walk.finished w out.old)
-        × (out.new ≡ walk.finished-out w out.old) × InFront result out.new }
+        × (out.new ≡ walk.finished_out w out.old) × InFront result out.new }
 {
     let begun = w.held;
     if begun.count == 0 {

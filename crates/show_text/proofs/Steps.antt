@@ -30,25 +30,25 @@ use Rattle.show_text.specs.Words.{commands}
 
 -- ---- a line, from a sound state: the tables, the answer and the row are those of the kernel by itself
 module _ (s : State) (e : is_sound s ≡ true) (l : Spoken) where
-  pub same_tables : (state_behind s l).kernel ≡ C.state-behind s.kernel l
-  unfolding state_behind C.state-behind
+  pub same_tables : (state_behind s l).kernel ≡ C.state_behind s.kernel l
+  unfolding state_behind C.state_behind
   same_tables = go (eqb l.code 0)
     where
       go : (b : Bool) → (cond b (step_of s (asked l)).next s).kernel ≡ cond b (P.step_of s.kernel (asked l)).next s.kernel
       go true = ap (λ (r : Stepped). r.next.kernel) (sym (alike s (asked l) e))
       go false = refl
 
-  pub same_answer : plain (answer_to s l) ≡ C.answer-to s.kernel l
-  unfolding answer_to C.answer-to
+  pub same_answer : plain (answer_to s l) ≡ C.answer_to s.kernel l
+  unfolding answer_to C.answer_to
   same_answer = go (eqb l.code 0)
     where
       go : (b : Bool)
-          → plain (cond b (step_of s (asked l)).answer (record { code = l.code; running = record { 0 = P.runningOf s.kernel }; released = record { 0 = 0 }; exception = false }))
-          ≡ cond b (P.step_of s.kernel (asked l)).answer (P.answer_of l.code (P.runningOf s.kernel) 0)
+          → plain (cond b (step_of s (asked l)).answer (record { code = l.code; running = record { 0 = P.running_of s.kernel }; released = record { 0 = 0 }; exception = false }))
+          ≡ cond b (P.step_of s.kernel (asked l)).answer (P.answer_of l.code (P.running_of s.kernel) 0)
       go true = ap (λ (r : Stepped). plain r.answer) (sym (alike s (asked l) e))
       go false = refl
 
-  pub same_row : (n : ℕ) → row_for s n l ≡ C.row-for s.kernel n l
+  pub same_row : (n : ℕ) → row_for s n l ≡ C.row_for s.kernel n l
   unfolding row_for
   same_row n = ap₂ (λ (a : K.Answer) (t : ℕ). row_of n l a t) same_answer (ap (λ (k : Kernel). k.clock) same_tables)
 
