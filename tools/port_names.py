@@ -90,10 +90,14 @@ def taken_from_libraries(text):
     return taken
 
 
+# The names by which the file at work calls modules of ours.
+OF_FILE = set()
+
+
 def turn(text, names, fields, stay, of_function=False):
     """Each word of text that is a name of ours, turned."""
 
-    aliases = set(ALIAS.findall(text))
+    aliases = OF_FILE
 
     def word(found):
         it, before = found[0], text[: found.start()]
@@ -114,6 +118,8 @@ def turn(text, names, fields, stay, of_function=False):
 
 
 def turn_antt(text, names, fields, stay, of_function):
+    OF_FILE.clear()
+    OF_FILE.update(ALIAS.findall(text))
     lines = []
     for line in text.split('\n'):
         cut = re.search(r'(^|\s)--(\s|$)', line)
@@ -123,12 +129,13 @@ def turn_antt(text, names, fields, stay, of_function):
     return '\n'.join(lines)
 
 
-CLAALIAS = re.compile(r'(?m)^ *(?:pub |ghost |unfoldable )*use Rattle\.\w+\.(?:specs|proofs)\.\S+ as (\w+)')
-USE = re.compile(r'(?m)^(\s*(?:pub )?(?:requires|ensures|ghost)\b.*)$')
+CLAUSE = re.compile(r'(?m)^(\s*(?:pub )?(?:requires|ensures|ghost)\b.*)$')
 
 
 def turn_rt(text, names, fields, stay):
     """Clauses and the imports of clauses: a line that begins with requires, ensures or ghost, and those behind it until its braces close."""
+    OF_FILE.clear()
+    OF_FILE.update(ALIAS.findall(text))
     out, deep, inside = [], 0, False
     for line in text.split('\n'):
         if not inside and CLAUSE.match(line):
