@@ -2,7 +2,7 @@
 use kernel_line::TaskID;
 
 // The number of the refusal, 0 for none; the running task after the step; the released task, 0 for nobody.
-#[derive(Drop)]
+#[derive(Clone, Copy)]
 pub struct Answer {
     pub code: u8,
     pub running: TaskID,

@@ -17,7 +17,7 @@ pub use kernel_line::{POId, TaskID};
 
 // Tables are indexed by the task 0..31 or by the object 0..7. A line ends at its first 0: idle is last in the ready
 // line, and never delayed.
-#[derive(Drop)]
+#[derive(Clone, Copy)]
 pub struct Kernel {
     // each task's base priority: 0 for idle, and for a task that is not created
     pub base: [u8; 32],
@@ -39,14 +39,14 @@ pub struct Kernel {
 }
 
 // The next state, and the answer.
-#[derive(Drop)]
+#[derive(Clone, Copy)]
 pub struct Stepped {
     pub next: Kernel,
     pub answer: Answer,
 }
 
 // The answer to "Wakes left".
-#[derive(Drop)]
+#[derive(Clone, Copy)]
 pub struct Left {
     pub code: u8,
     pub left: u8,

@@ -22,7 +22,7 @@ pub const LAST_OBJECT: u8 = 7;
 pub const TOP_PRIORITY: u8 = 15;
 
 // Any numbers: an op that is none is refused, and so is an operand out of its range.
-#[derive(Drop)]
+#[derive(Clone, Copy)]
 pub struct Command {
     pub op: u8,
     pub a: u8,

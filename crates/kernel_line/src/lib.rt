@@ -11,11 +11,11 @@ ghost use Rattle.rules.specs.Line.{at, count};
 ghost use Rattle.kernel_line.specs.Tables.{lead, more, time_in, with_time};
 
 // A task's number, 0 for idle.
-#[derive(Drop)]
+#[derive(Clone, Copy)]
 pub struct TaskID(pub u8);
 
 // A protected object's number, 0 for the null object.
-#[derive(Drop)]
+#[derive(Clone, Copy)]
 pub struct POId(pub u8);
 
 // ---- look up and store

@@ -18,7 +18,7 @@ pub mod in_place;
 pub use bits::pending_sound;
 
 // Bit t of `pending` is 1 where an exception was set for task t and no answer has shown it yet.
-#[derive(Drop)]
+#[derive(Clone, Copy)]
 pub struct State {
     pub kernel: Kernel,
     pub pending: u32,
@@ -26,7 +26,7 @@ pub struct State {
 
 // The number of the refusal, 0 for none; the running task after the step; the released task, 0 for nobody; and whether
 // an exception of the running task is shown.
-#[derive(Drop)]
+#[derive(Clone, Copy)]
 pub struct Answer {
     pub code: u8,
     pub running: TaskID,
@@ -35,14 +35,14 @@ pub struct Answer {
 }
 
 // The next state, and the answer.
-#[derive(Drop)]
+#[derive(Clone, Copy)]
 pub struct Stepped {
     pub next: State,
     pub answer: Answer,
 }
 
 // What is pending behind an answer, and whether the answer shows an exception.
-#[derive(Drop)]
+#[derive(Clone, Copy)]
 pub struct Settled {
     pub pending: u32,
     pub exception: bool,

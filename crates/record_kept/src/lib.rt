@@ -9,7 +9,7 @@ use kernel::{Answer, TaskID};
 use numbers::wide32;
 use record::Record;
 
-#[derive(Drop)]
+#[derive(Clone, Copy)]
 pub struct Kept {
     pub code: u8,
     pub running: TaskID,

@@ -9,7 +9,7 @@ pub const FOR_ENTRY: u8 = 2;
 
 // Whose exception the end of a body sets: nobody's, that of the runner, which ends the body, or that of the task that
 // is released.
-#[derive(Drop)]
+#[derive(Clone, Copy)]
 pub enum Whose {
     Nobody,
     Runner,
@@ -18,7 +18,7 @@ pub enum Whose {
 
 // The end of a body: the way in which the object is held; whether the command gives a barrier, by which a task that
 // waits is served; and whose exception it sets.
-#[derive(Drop)]
+#[derive(Clone, Copy)]
 pub struct End {
     pub way: u8,
     pub serves: bool,
@@ -27,7 +27,7 @@ pub struct End {
 
 // What an op asks for, whatever its number is. NoKind is of what is no op. Opening begins a procedure or function,
 // Entering an entry.
-#[derive(Drop)]
+#[derive(Clone, Copy)]
 pub enum Kind {
     NoKind,
     Creating,
