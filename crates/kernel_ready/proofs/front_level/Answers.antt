@@ -1,10 +1,8 @@
 -- What the check leaves of `front_level`.
-use Prim.Native.Nat.{◌+◌, ◌-◌, ◌≤◌}
 use mathlib.Core.Path.{◌≡◌, sym, ◌∙◌}
 use native.Mathlib.Omega.{arith}
-use lib.ListN.{length, get_or, drop}
+use lib.ListN.{length, get_or}
 use Rattle.kernel_line.proofs.Laws.{lead_step, lead_stop, lead_done}
-use Rattle.kernel_line.specs.Tables.{lead}
 use Rattle.kernel_ready.specs.Ready.{lower}
 use borrow.Author.Tests.{lt-leb, le-leb, lt-ltb, le-ltb}
 use borrow.Author.Rules.{rules}

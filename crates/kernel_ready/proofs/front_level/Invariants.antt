@@ -1,14 +1,10 @@
 -- `front_level` meets its contract. The invariant: the count is i and that of the rest; each entry passed has an active priority of at least p.
 -- Assumes nothing.
 use Prim.Native.Nat.{◌+◌, ◌-◌, ◌≤◌}
-use mathlib.Core.Path.{◌≡◌, sym, ◌∙◌}
-use native.Mathlib.Omega.{arith}
-use lib.ListN.{length, get_or, drop}
-use Rattle.kernel_line.proofs.Laws.{lead_step, lead_stop, lead_done}
+use mathlib.Core.Path.{◌≡◌}
+use lib.ListN.{drop}
 use Rattle.kernel_line.specs.Tables.{lead}
 use Rattle.kernel_ready.specs.Ready.{lower}
-use borrow.Author.Tests.{lt-leb, le-leb, lt-ltb, le-ltb}
-use borrow.Author.Rules.{rules}
 use Rattle.kernel_ready.proofs.front_level.Given as goal
 
 abbrev pub invariant-loop-i : goal.invariant-loop-i

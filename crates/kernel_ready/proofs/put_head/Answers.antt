@@ -1,6 +1,5 @@
 -- `put_head` meets its contract: it is `put_tail` of the priority above. Assumes nothing.
 use Rattle.kernel_ready.specs.Ready.{headed}
-use borrow.Author.Rules.{rules}
 use Rattle.kernel_ready.proofs.put_head.Goals as goal
 
 pub returns : goal.returns

@@ -1,7 +1,6 @@
 -- `put_tail` meets its contract: placing is inserting where the test stops. Assumes nothing.
 use Rattle.kernel_line.proofs.Laws.{place_lead}
 use Rattle.kernel_ready.specs.Ready.{lower, tailed}
-use borrow.Author.Rules.{rules}
 use Rattle.kernel_ready.proofs.put_tail.Goals as goal
 
 pub returns : goal.returns

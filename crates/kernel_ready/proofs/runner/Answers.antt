@@ -1,7 +1,6 @@
 -- `runner` meets its contract: the first cell. Assumes nothing.
 use mathlib.Core.Path.{refl}
 use Rattle.kernel_ready.specs.Ready.{runner_in}
-use borrow.Author.Rules.{rules}
 use Rattle.kernel_ready.proofs.runner.Goals as goal
 
 pub returns : goal.returns

@@ -1,6 +1,5 @@
 -- `running` meets its contract: the front, or 0 before Start. Assumes nothing.
 use Rattle.kernel_ready.specs.Ready.{runner_in}
-use borrow.Author.Rules.{rules}
 use Rattle.kernel_ready.proofs.running.Goals as goal
 
 pub returns : goal.returns

@@ -1,5 +1,4 @@
 -- `to_tail` meets its contract: the task's base is looked up, and it is put at the tail of that. Assumes nothing.
-use borrow.Author.Rules.{rules}
 use Rattle.kernel_ready.proofs.to_tail.Goals as goal
 
 pub returns : goal.returns
