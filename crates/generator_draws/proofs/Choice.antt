@@ -2,7 +2,7 @@
 -- Assumes nothing.
 use Prim.Native.Nat.{ℕ, zero, suc, ◌+◌, ◌*◌, ◌≤◌, ◌<◌}
 use native.Mathlib.Omega.{arith}
-use mathlib.Core.Path.{◌≡◌, refl}
+use mathlib.Core.Path.{◌≡◌, refl, ap, ◌∙◌}
 use mathlib.Core.Bool.{Bool, true, false, cond}
 use mathlib.Core.List.{List, [], ◌∷◌}
 use lib.Dec.{leb, ltb}
@@ -34,13 +34,19 @@ ahead [] i = 0
 ahead (x ∷ l) zero = 0
 ahead (x ∷ l) (suc i) = x.0 + ahead l i
 
+-- an entry whose weight does not reach above d is passed by
+passed_by : (d sum : ℕ) (x : ℕ × Offer) (l : List (ℕ × Offer)) → sum + x.0 ≤ d → choose d sum (x ∷ l) ≡ choose d (sum + x.0) l
+passed_by d sum x l h = rw (le-ltb d (sum + x.0) h)
+
 pub chosen_by : (l : List (ℕ × Offer)) (i sum : ℕ) → 1 ≤ (entry l i).0 → (ahead l i < total l) × (choose (sum + ahead l i) sum l ≡ (entry l i).1)
 chosen_by [] i sum h = absurd (omega arith)
 chosen_by (x ∷ l) zero sum h = (omega arith, rw (lt-ltb (sum + 0) (sum + x.0) (omega arith)))
 chosen_by (x ∷ l) (suc i) sum h =
     let w = chosen_by l i (sum + x.0) h in
-    let e : sum + (x.0 + ahead l i) ≡ sum + x.0 + ahead l i = omega arith in
-    (omega (arith, w.0), rw (e, le-ltb (sum + x.0 + ahead l i) (sum + x.0) (omega arith)) w.1)
+    let e : sum + ahead (x ∷ l) (suc i) ≡ sum + x.0 + ahead l i = omega arith in (
+      omega (arith, w.0),
+      passed_by (sum + ahead (x ∷ l) (suc i)) sum x l (omega arith) ∙ ap (λ (d : ℕ). choose d (sum + x.0) l) e ∙ w.1,
+    )
 
 -- What is weighed: the offer i has its weight if it is legal, and nothing else.
 pub weighed : (l : List Offer) (ws : List ℕ) (i : ℕ) (o : Offer) → i < length ws → i < length l

@@ -2,7 +2,7 @@
 -- each choice comes from equally many lists of values, but that a choice below r = 4294967295 mod n has r ^ 7 more: the lists whose first seven values are
 -- drawn again and whose eighth is the one value not below L that gives this choice. (All lists of eight values are counted, as if draws did not depend on each
 -- other. From a seed the first draw fixes the others, so a run of the generator meets only 4294967295 of these lists.) Assumes nothing.
-use Prim.Native.Nat.{ℕ, zero, suc, ◌+◌, ◌-◌, ◌*◌, ◌/◌, ◌%◌, ◌≤◌, ◌<◌, ◌^◌}
+use Prim.Native.Nat.{ℕ, zero, suc, ◌+◌, ◌*◌, ◌/◌, ◌%◌, ◌≤◌, ◌<◌, ◌^◌}
 use native.Mathlib.Omega.{arith}
 use native.Mathlib.Nat.{mod-lt, mod-eq_of_lt, mul-add, add-mul, mul_comm, mul-one, mul_assoc, mul_left_comm, pow-zero, pow-succ', div-add-mod}
 use native.Mathlib.Nat.{mul-add-mod_self_left}
