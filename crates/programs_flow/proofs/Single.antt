@@ -1,12 +1,15 @@
 -- No second answer of those public functions whose answer hangs on nothing that the system does: of any Went, only one answer meets the contract as the check
 -- states it. Rules out: a contract that leaves the status, a count or how the work stands open. Leaves: which answer it is (specs/); and what a read brings
--- and a write takes, which no contract can say. (The law: crate one_answer, proofs/Law.) Assumes nothing.
+-- and a write takes, which no contract can say. (Five of them take what stands for standard error: of any type `E` that prints.) (The law: crate one_answer, proofs/Law.) Assumes nothing.
 use seplogic.Ra.Ura.{Ura}
 use base.Logic.{SProp}
 use prog.Memory.{Memory}
 use prog.Routine.{Routine}
 use types.Logic.{Logic}
 use contract.Monad.{Fun}
+use denote.RattleType.{RattleType}
+use mir.Syntax.{Dict}
+use Rattle.std.specs.declared.io.Print.{Ghosts}
 use Rattle.one_answer.proofs.Law.{OneAnswer, one}
 use Rattle.programs_flow.specs.contracts.going
 use Rattle.programs_flow.specs.contracts.goes_on
@@ -39,17 +42,22 @@ module _ {M : Type 1} {𝓤 : Ura M} (𝓛 : Logic 𝓤) (mem : Memory → SProp
   pub status_single : OneAnswer 𝓤 status.ended (status.clauses 𝓛 mem run)
   status_single κs a g r s d e = one 𝓤 _ _ _
 
-  pub told_single : OneAnswer 𝓤 told.ended (told.clauses 𝓛 mem run)
-  told_single κs a g r s d e = one 𝓤 _ _ _
+  pub told_single : (E : RattleType) (p : Ghosts E.Denot) (d : Dict)
+      → OneAnswer 𝓤 (told.ended E p d) (told.clauses E p d 𝓛 mem run)
+  told_single E p h κs a g r s d e = one 𝓤 _ _ _
 
-  pub refused_single : OneAnswer 𝓤 refused.ended (refused.clauses 𝓛 mem run)
-  refused_single κs a g r s d e = one 𝓤 _ _ _
+  pub refused_single : (E : RattleType) (p : Ghosts E.Denot) (d : Dict)
+      → OneAnswer 𝓤 (refused.ended E p d) (refused.clauses E p d 𝓛 mem run)
+  refused_single E p h κs a g r s d e = one 𝓤 _ _ _
 
-  pub not_read_single : OneAnswer 𝓤 not_read.ended (not_read.clauses 𝓛 mem run)
-  not_read_single κs a g r s d e = one 𝓤 _ _ _
+  pub not_read_single : (E : RattleType) (p : Ghosts E.Denot) (d : Dict)
+      → OneAnswer 𝓤 (not_read.ended E p d) (not_read.clauses E p d 𝓛 mem run)
+  not_read_single E p h κs a g r s d e = one 𝓤 _ _ _
 
-  pub not_written_single : OneAnswer 𝓤 not_written.ended (not_written.clauses 𝓛 mem run)
-  not_written_single κs a g r s d e = one 𝓤 _ _ _
+  pub not_written_single : (E : RattleType) (p : Ghosts E.Denot) (d : Dict)
+      → OneAnswer 𝓤 (not_written.ended E p d) (not_written.clauses E p d 𝓛 mem run)
+  not_written_single E p h κs a g r s d e = one 𝓤 _ _ _
 
-  pub checked_single : OneAnswer 𝓤 checked.ended (checked.clauses 𝓛 mem run)
-  checked_single κs a g r s d e = one 𝓤 _ _ _
+  pub checked_single : (E : RattleType) (p : Ghosts E.Denot) (d : Dict)
+      → OneAnswer 𝓤 (checked.ended E p d) (checked.clauses E p d 𝓛 mem run)
+  checked_single E p h κs a g r s d e = one 𝓤 _ _ _

@@ -2,14 +2,20 @@
 // input or writes an output.
 #![tactic(auto)]
 
-ghost use Rattle.std.specs.Prelude.{◌≤◌, ◌≡◌, eqb, leb, length};
+ghost use Rattle.std.specs.Prelude.{◌≤◌, ◌≡◌, eqb, is_ok, leb, length};
 ghost use Rattle.programs_flow.specs.Flow as flow;
+
+mod reason;
+
+use crate::reason::reason_of;
+use std::io;
+use std::io::{Error, ErrorKind, Print, Read, Write};
 
 // How the work stands (kind): it goes on (0), a read gave nothing (1), a read failed (2), a write failed (3); how
 // many bytes the last read brought; and how many bytes all writes took so far. All three are private: only this crate
 // gives them. So no program can say that its input has ended where no read gave nothing, that a read brought less
 // than it did, or that a text was written which was not.
-#[derive(Drop)]
+#[derive(Clone, Copy)]
 pub struct Went {
     kind: u8,
     count: usize,
@@ -63,48 +69,58 @@ pub fn status(w: Went) -> u8
     0
 }
 
-// What one call of the system did: how many bytes it moved, and how the work stands behind it. 4: a signal ended the
-// call before it moved a byte.
-#[derive(Drop)]
+// What one call of the system did: how many bytes it moved, how the work stands behind it, and the system's reason where
+// it failed. 4: a signal ended the call before it moved a byte.
+#[derive(Clone, Copy)]
 struct Call {
     count: usize,
     kind: u8,
+    why: Error,
 }
 
-fn moved_none(kind: u8) -> Call
+fn moved_none(kind: u8, why: Error) -> Call
     ensures { (result.count ≡ 0) × (result.kind ≡ kind) }
 {
-    Call { count: 0, kind }
+    Call {
+        count: 0,
+        kind,
+        why,
+    }
 }
 
-// One line on standard error: which file, what could not be done with it, and the system's reason. (A write that does
-// not fail leaves that reason as it is.)
-fn complain(name: &[u8], what: &[u8]) {
-    io::write_all(libc::STDERR_FILENO, name);
-    os::fail(what);
+// One line on standard error: which file, what could not be done with it, and the system's reason. Where standard
+// error takes none of it, nothing more can be done.
+fn complain<E: Print>(errors: &E, why: Error, name: &[u8], what: &[u8]) {
+    let r = reason_of(why);
+    let n = r.len.min(256);
+    let _ = errors.write_all(name);
+    let _ = errors.write_all(what);
+    let _ = errors.write_all(b": ");
+    let _ = errors.write_all(&r.text[..n]);
+    let _ = errors.write_all(b"\n");
 }
 
 // A status, and why.
-pub fn told(status: u8, name: &[u8], what: &[u8]) -> u8
+pub fn told<E: Print>(errors: &E, why: Error, status: u8, name: &[u8], what: &[u8]) -> u8
     ensures { result ≡ status }
 {
-    complain(name, what);
+    complain(errors, why, name, what);
     status
 }
 
 // A status, and why, where nothing of the system failed: a line as it stands.
-pub fn refused(status: u8, line: &[u8]) -> u8
+pub fn refused<E: Print>(errors: &E, status: u8, line: &[u8]) -> u8
     ensures { result ≡ status }
 {
-    io::write_all(libc::STDERR_FILENO, line);
+    let _ = errors.write_all(line);
     status
 }
 
 // What was to be read is not there, or cannot be used.
-pub fn not_read(w: Went, name: &[u8], what: &[u8]) -> Went
+pub fn not_read<E: Print>(w: Went, errors: &E, why: Error, name: &[u8], what: &[u8]) -> Went
     ensures { result ≡ flow.unread w }
 {
-    complain(name, what);
+    complain(errors, why, name, what);
     Went {
         kind: 2,
         count: 0,
@@ -113,10 +129,10 @@ pub fn not_read(w: Went, name: &[u8], what: &[u8]) -> Went
 }
 
 // What was to be written or kept is not.
-pub fn not_written(w: Went, name: &[u8], what: &[u8]) -> Went
+pub fn not_written<E: Print>(w: Went, errors: &E, why: Error, name: &[u8], what: &[u8]) -> Went
     ensures { result ≡ flow.unwritten w }
 {
-    complain(name, what);
+    complain(errors, why, name, what);
     Went {
         kind: 3,
         count: w.count,
@@ -125,50 +141,68 @@ pub fn not_written(w: Went, name: &[u8], what: &[u8]) -> Went
 }
 
 // The work stands as it stood where something was done with a file; else it is not, as it is said.
-pub fn checked(w: Went, done: bool, name: &[u8], what: &[u8]) -> Went
-    ensures { result ≡ flow.where_done done w }
+#[tactic(auto, unfolding(crate::specs::Flow::where_done))]
+pub fn checked<E: Print>(
+    w: Went,
+    errors: &E,
+    done: io::Result<()>,
+    name: &[u8],
+    what: &[u8],
+) -> Went
+    ensures { result ≡ flow.where_done (is_ok done) w }
 {
-    if done {
-        return w;
+    match done {
+        Ok(()) => w,
+        Err(why) => not_written(w, errors, why, name, what),
     }
-    not_written(w, name, what)
 }
 
-fn read_once(fd: i32, piece: &mut [u8]) -> Call
+fn read_once<R: Read>(from: &mut R, piece: &mut [u8]) -> Call
     ensures { flow.Brought piece.new result.count result.kind }
 {
-    let got = libc::read(fd, piece);
-    let count = io::count(got, piece);
-    if count > 0 {
-        return Call { count, kind: 0 };
+    match from.read(piece) {
+        Ok(count) => {
+            let why = Error::from(ErrorKind::UnexpectedEof);
+            if count > 0 {
+                return Call {
+                    count,
+                    kind: 0,
+                    why,
+                };
+            }
+            moved_none(1, why)
+        }
+        Err(why) => {
+            if why.kind() == ErrorKind::Interrupted {
+                return moved_none(4, why);
+            }
+            moved_none(2, why)
+        }
     }
-    if got == 0 {
-        return moved_none(1);
-    }
-    if os::errno() == libc::EINTR {
-        return moved_none(4);
-    }
-    moved_none(2)
 }
 
 // One read into piece, of a file that has this name where it is complained of. A call that a signal ended is made
 // again. Nothing says that signals end, so the loop counts down from a number that no run uses up.
-pub fn read_from(w: Went, fd: i32, name: &[u8], piece: &mut [u8]) -> Went
+pub fn read_from<R: Read, E: Print>(
+    w: Went,
+    from: &mut R,
+    errors: &E,
+    name: &[u8],
+    piece: &mut [u8],
+) -> Went
     ensures { flow.Came w result piece.new }
 {
     let mut turns = u64::MAX;
-    let first = read_once(fd, piece);
-    let mut count = first.count;
-    let mut kind = first.kind;
-    while turns > 0 && 2 < kind {
-        let again = read_once(fd, piece);
-        count = again.count;
-        kind = again.kind;
+    let mut call = read_once(from, piece);
+    while turns > 0 && 2 < call.kind {
+        call = read_once(from, piece);
         turns -= 1;
     }
+    let kind = call.kind;
     if 2 <= kind {
-        return not_read(w, name, b" could not be read");
+        return not_read(w, errors, call.why, name, b" could not be read");
     }
+    let count = call.count;
     Went {
         kind,
         count,
@@ -177,47 +211,66 @@ pub fn read_from(w: Went, fd: i32, name: &[u8], piece: &mut [u8]) -> Went
 }
 
 // One read of the input.
-pub fn read_piece(w: Went, fd: i32, piece: &mut [u8]) -> Went
+pub fn read_piece<R: Read, E: Print>(w: Went, from: &mut R, errors: &E, piece: &mut [u8]) -> Went
     ensures { flow.Came w result piece.new }
 {
-    read_from(w, fd, b"the input", piece)
+    read_from(w, from, errors, b"the input", piece)
 }
 
 // A write that takes nothing has failed, too.
-fn write_once(fd: i32, out: &[u8]) -> Call
+fn write_once<W: Write>(to: &mut W, out: &[u8]) -> Call
     ensures { result.count ≤ length out.now }
 {
-    let put = libc::write(fd, out);
-    let count = io::count(put, out);
-    if count > 0 {
-        return Call { count, kind: 0 };
+    match to.write(out) {
+        Ok(count) => {
+            let why = Error::from(ErrorKind::WriteZero);
+            if count > 0 {
+                return Call {
+                    count,
+                    kind: 0,
+                    why,
+                };
+            }
+            moved_none(3, why)
+        }
+        Err(why) => {
+            if why.kind() == ErrorKind::Interrupted {
+                return moved_none(4, why);
+            }
+            moved_none(3, why)
+        }
     }
-    if (put < 0) & (os::errno() == libc::EINTR) {
-        return moved_none(4);
-    }
-    moved_none(3)
 }
 
 // All of out, in as many writes as it takes, to a file that has this name where it is complained of: it is all taken,
 // or the write has failed. What the last read brought is kept. Where no number holds the total that is a failure, too;
 // no run gets there.
-pub fn write_to(w: Went, fd: i32, name: &[u8], out: &[u8]) -> Went
+pub fn write_to<W: Write, E: Print>(
+    w: Went,
+    to: &mut W,
+    errors: &E,
+    name: &[u8],
+    out: &[u8],
+) -> Went
     ensures { flow.Wrote (length out.now) w result }
 {
     let mut turns = u64::MAX;
     let mut at = 0;
     let mut kind = 0;
+    let mut why = Error::from(ErrorKind::Other);
     while turns > 0 && at < out.len() && kind != 3 {
-        let put = write_once(fd, &out[at..]);
+        let put = write_once(to, &out[at..]);
         kind = put.kind;
+        why = put.why;
         at += put.count;
         turns -= 1;
     }
     if at < out.len() {
-        return not_written(w, name, b" could not be written");
+        return not_written(w, errors, why, name, b" could not be written");
     }
     if usize::MAX - w.sent < at {
-        return not_written(w, name, b" could not be counted");
+        let why = Error::from(ErrorKind::FileTooLarge);
+        return not_written(w, errors, why, name, b" could not be counted");
     }
     let sent = w.sent + at;
     Went {
@@ -228,8 +281,8 @@ pub fn write_to(w: Went, fd: i32, name: &[u8], out: &[u8]) -> Went
 }
 
 // All of out, to standard output.
-pub fn write_whole(w: Went, out: &[u8]) -> Went
+pub fn write_whole<W: Write, E: Print>(w: Went, output: &mut W, errors: &E, out: &[u8]) -> Went
     ensures { flow.Wrote (length out.now) w result }
 {
-    write_to(w, libc::STDOUT_FILENO, b"the output", out)
+    write_to(w, output, errors, b"the output", out)
 }

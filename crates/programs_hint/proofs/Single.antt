@@ -6,9 +6,13 @@ use prog.Memory.{Memory}
 use prog.Routine.{Routine}
 use types.Logic.{Logic}
 use contract.Monad.{Fun}
+use denote.RattleType.{RattleType}
+use mir.Syntax.{Dict}
+use Rattle.std.specs.declared.io.Print.{Ghosts}
 use Rattle.one_answer.proofs.Law.{OneAnswer, one}
 use Rattle.programs_hint.specs.contracts.hinted
 
 module _ {M : Type 1} {𝓤 : Ura M} (𝓛 : Logic 𝓤) (mem : Memory → SProp 𝓤) (run : Routine → Fun 𝓤) where
-  pub hinted_single : OneAnswer 𝓤 hinted.ended (hinted.clauses 𝓛 mem run)
-  hinted_single κs a g r s d e = one 𝓤 _ _ _
+  pub hinted_single : (E : RattleType) (p : Ghosts E.Denot) (d : Dict)
+      → OneAnswer 𝓤 (hinted.ended E p d) (hinted.clauses E p d 𝓛 mem run)
+  hinted_single E p h κs a g r s d e = one 𝓤 _ _ _

@@ -4,6 +4,8 @@
 ghost use Rattle.std.specs.Prelude.{◌≡◌, ◌||◌};
 ghost use Rattle.rules.specs.Line.{among};
 
+use std::io::Print;
+
 fn has_return(piece: &[u8]) -> bool
     ensures { result ≡ among piece.now 13 }
 {
@@ -19,7 +21,7 @@ fn has_return(piece: &[u8]) -> bool
 
 // Said once: a script from a machine that ends its lines with 13 and 10 is refused line by line, and no number says
 // why.
-pub fn hinted(given: bool, piece: &[u8]) -> bool
+pub fn hinted<E: Print>(errors: &E, given: bool, piece: &[u8]) -> bool
     ensures { result ≡ (given || among piece.now 13) }
 {
     if given {
@@ -28,8 +30,7 @@ pub fn hinted(given: bool, piece: &[u8]) -> bool
     if !has_return(piece) {
         return false;
     }
-    io::write_all(
-        libc::STDERR_FILENO,
+    let _ = errors.write_all(
         b"hint: a byte 13 (carriage return) stands in the input. A line ends in byte 10 alone, and one with a 13 in it is refused with 14. Take the 13s out, as by: tr -d '\\r' <FILE\n",
     );
     true
