@@ -23,7 +23,7 @@ abbrev pub Seen : Type 0
 Seen = List ℕ × ℕ × ℕ
 
 abbrev pub seen : Bor (List ℕ) → Seen
-seen part = (part .now, part .ptr .0, part .ptr .1)
+seen part = (part.now, part.ref_ptr.0, part.ref_ptr.1)
 
 module _ {M : Type 1} {𝓤 : Ura M} (𝓛 : Logic 𝓤) (mem : Memory → SProp 𝓤) (run : Routine → Fun 𝓤) where
   -- ---- the writer

@@ -65,5 +65,5 @@ next_at s at = place_of at (read_of s at)
 -- memory, and starts there.
 abbrev pub PartAt : Bor (List ℕ) → ℕ → Bor (List ℕ) → Type 0
 PartAt tape at part =
-    (part.now ≡ part_at tape.now at) × (part.ptr.0 ≡ tape.ptr.0)
-    × (part.ptr.1 ≡ tape.ptr.1 + start_at tape.now at)
+    (part.now ≡ part_at tape.now at) × (part.ref_ptr.0 ≡ tape.ref_ptr.0)
+    × (part.ref_ptr.1 ≡ tape.ref_ptr.1 + start_at tape.now at)

@@ -5,7 +5,7 @@
 pub use record::Record;
 
 // What stands at a place of a tape.
-#[derive(Drop)]
+#[derive(Clone, Copy)]
 pub enum Read {
     // a record, and the place behind it
     Found(Record, usize),
