@@ -1,0 +1,61 @@
+-- What the check leaves of `holders_fit`.
+use mathlib.Core.Path.{◌≡◌, refl, sym, ◌∙◌}
+use native.Mathlib.Omega.{arith}
+use lib.ListN.{length, length-set}
+use Rattle.kernel_holders.proofs.Loops.{holders_skip, holders_out, holders_stop, holders_step, holders_done}
+use borrow.Author.Rules.{rules}
+use Rattle.kernel_holders.proofs.holders_fit.Goals as goal
+
+pub loop-t-init : goal.loop-t-init
+loop-t-init c = (search rules, refl)
+
+pub loop-t-preserved-then-o-eq0 : goal.loop-t-preserved-then-o-eq0
+loop-t-preserved-then-o-eq0 c =
+    let h = c in
+    let a = h.args in
+    let len : length a.held.now ≡ 32 = search rules in
+    let all : length a.base.now ≡ 32 = search rules in (
+      h.loop-t.invariant.0,
+      h.loop-t.invariant.1 ∙ holders_skip a.ceiling h.loop-t.taken a.base.now a.held.now h.loop-t.t (omega arith) (omega arith) c.if-o-eq0.true,
+    )
+
+pub returns-then-o-ge8 : goal.returns-then-o-ge8
+returns-then-o-ge8 c =
+    let h = c in
+    let a = h.args in
+    let len : length a.held.now ≡ 32 = search rules in
+    let all : length a.base.now ≡ 32 = search rules in
+    sym
+    (h.loop-t.invariant.1 ∙ holders_out a.ceiling h.loop-t.taken a.base.now a.held.now h.loop-t.t (omega arith) (omega arith) c.if-o-eq0.false
+    c.if-o-ge8.true)
+
+pub returns-then-not-free-admits : goal.returns-then-not-free-admits
+returns-then-not-free-admits c =
+    let h = c in
+    let a = h.args in
+    let len : length a.held.now ≡ 32 = search rules in
+    let all : length a.base.now ≡ 32 = search rules in
+    sym
+    (h.loop-t.invariant.1 ∙ holders_stop a.ceiling h.loop-t.taken a.base.now a.held.now h.loop-t.t (omega arith) (omega arith)
+    c.if-o-eq0.false c.if-o-ge8.false (rw (← c.admits.ensures) c.if-not-free-admits.true))
+
+pub loop-t-preserved : goal.loop-t-preserved
+loop-t-preserved c =
+    let h = c in
+    let a = h.args in
+    let len : length a.held.now ≡ 32 = search rules in
+    let all : length a.base.now ≡ 32 = search rules in
+    let now : length h.loop-t.taken ≡ 8 = h.loop-t.invariant.0 in (
+      simp length-set now,
+      h.loop-t.invariant.1 ∙ holders_step a.ceiling h.loop-t.taken a.base.now a.held.now h.loop-t.t (omega arith) (omega arith)
+          c.if-o-eq0.false c.if-o-ge8.false
+          (rw (← c.admits.ensures) c.if-not-free-admits.false),
+    )
+
+pub returns : goal.returns
+returns c =
+    let h = c in
+    let a = h.args in
+    let len : length a.held.now ≡ 32 = search rules in
+    let all : length a.base.now ≡ 32 = search rules in
+    sym (h.loop-t.invariant.1 ∙ holders_done a.ceiling h.loop-t.taken a.base.now a.held.now h.loop-t.t (omega arith))
