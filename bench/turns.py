@@ -3,7 +3,7 @@
 
     bench/turns.py ROUNDS COUNT UNIT C_PROGRAM RATTLE_PROGRAM INPUT..
 
-Of each input the least time of all rounds counts, and these are summed. COUNT is how many things of the name UNIT all inputs have: the time for one is
+A program is a file, or a file and words for it. Of each input the least time of all rounds counts, and these are summed. COUNT is how many things of the name UNIT all inputs have: the time for one is
 printed, too. What the programs print is thrown away.
 """
 import resource
@@ -14,7 +14,7 @@ import sys
 def seconds(program, given):
     before = resource.getrusage(resource.RUSAGE_CHILDREN)
     with open(given, 'rb') as source:
-        subprocess.run([program], stdin=source, stdout=subprocess.DEVNULL, check=True)
+        subprocess.run(program.split(), stdin=source, stdout=subprocess.DEVNULL, check=True)
     after = resource.getrusage(resource.RUSAGE_CHILDREN)
     return after.ru_utime + after.ru_stime - before.ru_utime - before.ru_stime
 

@@ -4,13 +4,12 @@
     python3 host/io.py      builds the programs by ./run where they are not built, runs the cases, and prints one line
 
 Each case is a run of ./run. The failures come of host/fail.c, a library that is loaded before the C library: behind a number of bytes a call fails with
-an errno. Others come of the system itself: a full device, closed descriptors, a folder for a file, a reader that goes away. It wants gcc (on Arm
-gcc-x86-64-linux-gnu), as host/run.sh does.
+an errno. Others come of the system itself: a full device, closed descriptors, a folder for a file, a reader that goes away. It wants gcc, as host/run.sh
+does, and an x86-64 machine.
 """
 import errno
 import os
 import pathlib
-import platform
 import resource
 import shutil
 import signal
@@ -20,7 +19,8 @@ import tempfile
 
 ROOT = pathlib.Path(__file__).resolve().parent.parent
 RUN = str(ROOT / 'run')
-ARM = platform.machine() == 'aarch64'
+# What ./run starts, by the word that it passes on: walk, draw, judge, salvage or show.
+PROGRAM = ROOT / 'target' / 'run' / 'programs'
 # No case takes a second; one that waits for what never comes is ended here.
 LIMIT = 20
 WALK_HEADER = b'n op code run rel clock\n'
@@ -55,13 +55,11 @@ class Ended:
         self.out, self.said, self.status, self.calls = out, said, status, calls
 
 
-def faults(program, **how):
-    """The environment in which host/fail.c is loaded into the program. On Arm it is the emulator that passes the library on."""
-    library = f'LD_PRELOAD={work / "fail.so"}'
-    name, value = ('QEMU_SET_ENV', library) if ARM else library.split('=', 1)
+def faults(**how):
+    """The environment in which host/fail.c is loaded into the program."""
     log = work / 'calls'
     log.unlink(missing_ok=True)
-    return {name: value, 'FAIL_IN': program, 'FAIL_LOG': str(log), **{f'FAIL_{key.upper()}': str(value) for key, value in how.items()}}
+    return {'LD_PRELOAD': str(work / 'fail.so'), 'FAIL_IN': PROGRAM.name, 'FAIL_LOG': str(log), **{f'FAIL_{key.upper()}': str(value) for key, value in how.items()}}
 
 
 def run(*words, given=b'', closed=(), environment=None, command=RUN, **more):
@@ -105,7 +103,7 @@ def last_is_failure(title, ended, call):
 
 def failed_read(program, given, at, error, out):
     title = f'{program}: reading fails behind {at} bytes, {os.strerror(error)}'
-    ended = run(program, given=given, environment=faults(program, read=f'{at} {error} 1'))
+    ended = run(program, given=given, environment=faults(read=f'{at} {error} 1'))
     hold(title, ended, out, 3, told(INPUT, error))
     at_failure = ended.calls.index(f'read error {error}')
     if any(line.startswith('read') for line in ended.calls[at_failure + 1:]):
@@ -135,7 +133,7 @@ def draw_reads():
     # behind the accepted start nothing is read, so nothing fails
     whole = run('draw', given=given)
     hold('draw', whole, whole.out, 0)
-    ended = run('draw', given=given + b'advance 1\n', environment=faults('draw', read=f'{len(given)} {errno.EIO} 1'))
+    ended = run('draw', given=given + b'advance 1\n', environment=faults(read=f'{len(given)} {errno.EIO} 1'))
     hold('draw: reading would fail behind the start', ended, whole.out, 0)
 
 
@@ -149,7 +147,7 @@ def judge_reads():
         whole = run('judge', given=tape)
         hold(f'judge: {name}', whole, whole.out, verdict)
         # interrupted and in small pieces: the same
-        ended = run('judge', given=tape, environment=faults('judge', most=7, turns=1))
+        ended = run('judge', given=tape, environment=faults(most=7, turns=1))
         hold(f'judge: {name} in pieces', ended, whole.out, verdict)
         unwritten('judge', tape, whole.out, (0, 5, len(whole.out) - 1))
 
@@ -169,7 +167,7 @@ def interrupted():
         whole = run(program, given=given)
         hold(program, whole, whole.out, 0)
         for how in ({'turns': 1}, {'most': 1}, {'turns': 1, 'most': 1}, {'read': f'25 {errno.EINTR} 3'}, {'write': f'30 {errno.EINTR} 3'}, {'write': f'0 {errno.EINTR} 1'}):
-            hold(f'{program}: {how}', run(program, given=given, environment=faults(program, **how)), whole.out, 0)
+            hold(f'{program}: {how}', run(program, given=given, environment=faults(**how)), whole.out, 0)
 
 
 # ---- Writes
@@ -178,7 +176,7 @@ def unwritten(program, given, whole, places):
     """The write behind so many bytes fails, in small pieces of input: what was written before stands, and nothing else is done."""
     for at in places:
         title = f'{program}: writing fails behind {at} bytes'
-        ended = run(program, given=given, environment=faults(program, write=f'{at} {errno.ENOSPC} 1', most=100))
+        ended = run(program, given=given, environment=faults(write=f'{at} {errno.ENOSPC} 1', most=100))
         hold(title, ended, whole[:at], 3, told(OUTPUT, errno.ENOSPC))
         last_is_failure(title, ended, 'write')
 
@@ -260,7 +258,7 @@ def endless_first_line():
     answer = DRAW_HEADER + b'0 0 0 0 0 14 0 0 0\n'
     with open('/dev/zero', 'rb') as zeros:
         hold('draw: an endless first line', run('draw', stdin=zeros), answer, 0, ('hint: ',))
-        ended = run('draw', stdin=zeros, environment=faults('draw', most=1))
+        ended = run('draw', stdin=zeros, environment=faults(most=1))
     hold('draw: an endless first line, byte by byte', ended, answer, 0, ('hint: ',))
     if ended.calls.count('read 1') != 129:
         stop(f'draw reads {ended.calls.count("read 1")} bytes of an endless first line, and 129 tell that it is over 128')
@@ -272,7 +270,7 @@ def longest_first_line():
         line = FIRST.replace(b'seed 1 ', b'seed ' + b'9' * (128 - len(FIRST) + 2 + long) + b' ')
         rows = DRAW_HEADER + b'0 0 0 0 0 %d 0 0 0\n' % number
         hold(f'draw: a first line of {len(line) - 1} bytes', run('draw', given=line + SETUP), rows, 0, ('hint: ',))
-        ended = run('draw', given=line + SETUP, environment=faults('draw', most=7))
+        ended = run('draw', given=line + SETUP, environment=faults(most=7))
         hold(f'draw: a first line of {len(line) - 1} bytes in pieces', ended, rows, 0, ('hint: ',))
 
 
@@ -292,16 +290,14 @@ def hints():
 
 
 def stack():
-    """Each program has enough with the stack that docs/PROGRAMS.md says. (Under the emulator the stack is the emulator's.)"""
+    """Each program has enough with the stack that docs/PROGRAMS.md says."""
     tape = (TAPES / '000.tape').read_bytes()
-    for program, given in () if ARM else (('walk', SCRIPT * 200), ('show', SCRIPT * 200), ('draw', FIRST.replace(b'25', b'2500') + SETUP), ('judge', tape)):
+    for program, given in (('walk', SCRIPT * 200), ('show', SCRIPT * 200), ('draw', FIRST.replace(b'25', b'2500') + SETUP), ('judge', tape)):
         whole = run(program, given=given)
         # the environment stands on the stack too
-        small = run(given=given, command=str(ROOT / 'target' / 'run' / program), env={}, preexec_fn=lambda: resource.setrlimit(resource.RLIMIT_STACK, (STACK, STACK)))
+        small = run(program, given=given, command=PROGRAM, env={}, preexec_fn=lambda: resource.setrlimit(resource.RLIMIT_STACK, (STACK, STACK)))
         hold(f'{program} with a stack of {STACK} bytes', small, whole.out, 0)
-    if not ARM:
-        hold(f'salvage with a stack of {STACK} bytes', salvage(command=str(ROOT / 'target' / 'run' / 'salvage'), env={},
-                                                               preexec_fn=lambda: resource.setrlimit(resource.RLIMIT_STACK, (STACK, STACK))), TOLD, 0)
+    hold(f'salvage with a stack of {STACK} bytes', salvage(command=PROGRAM, env={}, preexec_fn=lambda: resource.setrlimit(resource.RLIMIT_STACK, (STACK, STACK))), TOLD, 0)
 
 
 # ---- Salvage
@@ -322,7 +318,7 @@ def salvage(*words, old=TORN, beside=(), how=None, **more):
         (PLACE / 'old').write_bytes(old)
     for name in beside:
         (PLACE / name).write_bytes(b'here before')
-    return run(*(() if 'command' in more else ('salvage',)), *(words or ('old', 'new')), cwd=PLACE, environment=None if how is None else faults('salvage', **how), **more)
+    return run('salvage', *(words or ('old', 'new')), cwd=PLACE, environment=None if how is None else faults(**how), **more)
 
 
 def left(title, **files):
@@ -483,7 +479,7 @@ def shows():
         hold(f'show FILE {n}', run('show', str(script), str(n)), WALK_HEADER + part, 0)
         # nothing is asked for behind line n; the last has no line end, and is there when the input has ended
         at = len(SCRIPT) if n == len(parts) else sum(len(line) + 1 for line in SCRIPT.split(b'\n')[:n])
-        ended = shown(str(n), environment=faults('show', most=1))
+        ended = shown(str(n), environment=faults(most=1))
         hold(f'show {n}, byte by byte', ended, WALK_HEADER + part, 0)
         if ended.calls.count('read 1') != at or ended.calls.count('read 0') != (n == len(parts)):
             stop(f'show {n} reads {ended.calls.count("read 1")} bytes, and {at} are enough')
@@ -493,9 +489,7 @@ def shows():
     for word in ('0', '01', '-1', '+1', 'x', '', '1 ', str(CLOCK), str(CLOCK + 1), '9' * 5000):
         hold(f'show {word[:30]!r}', shown(word), b'', 2, ("show: '", 'is no line'))
     hold('show with a word too many', shown('1', '2'), b'', 2, ('run: ', "'2' is a word too many"))
-    program = [] if ARM else [str(ROOT / 'target' / 'run' / 'show')]
-    for command in program:
-        hold('the program with a word too many', run('1', '2', command=command), b'', 2, ('show: a word too many',))
+    hold('the program with a word too many', run('show', '1', '2', command=PROGRAM), b'', 2, ('show: a word too many',))
     hold('show of a script with byte 13', shown('2', given=b'start\r\nstart\r\n'), shown('2', given=b'\n\n').out, 0, ('hint: ', '13'))
 
 
@@ -506,9 +500,9 @@ def failed_shows():
         failed_read('show', SCRIPT, at, errno.EIO, WALK_HEADER + b''.join(parts[:whole_lines(SCRIPT, at)]))
     unwritten('show', SCRIPT, whole, range(0, len(whole), 40))
     for how in ({'turns': 1}, {'most': 1}, {'turns': 1, 'most': 1}, {'read': f'25 {errno.EINTR} 3'}, {'write': f'30 {errno.EINTR} 3'}):
-        hold(f'show: {how}', shown(environment=faults('show', **how)), whole, 0)
+        hold(f'show: {how}', shown(environment=faults(**how)), whole, 0)
     # a failure stands before a line that is not there
-    ended = shown('100', environment=faults('show', read=f'26 {errno.EIO} 1'))
+    ended = shown('100', environment=faults(read=f'26 {errno.EIO} 1'))
     hold('show 100: reading fails', ended, WALK_HEADER, 3, told(INPUT, errno.EIO))
 
 
@@ -518,7 +512,7 @@ def bare():
     """An environment in which there is no rt: a folder with links to the commands that the launcher uses."""
     folder = work / 'bin'
     folder.mkdir(exist_ok=True)
-    for name in ('sh', 'cat', 'date', 'dirname', 'find', 'flock', 'head', 'mkdir', 'mv', 'readlink', 'rm', 'sed', 'tail', 'uname'):
+    for name in ('sh', 'cat', 'cp', 'date', 'dirname', 'find', 'flock', 'head', 'mkdir', 'mv', 'readlink', 'rm', 'sed', 'tail', 'uname'):
         if not (folder / name).exists():
             (folder / name).symlink_to(shutil.which(name))
     return {'PATH': str(folder), 'RATTLE_HOME': ''}
@@ -547,20 +541,19 @@ def refusals():
 def toolchain():
     """A copy of the launcher beside a source and nothing that is built: the toolchain is missing, or does not build."""
     copy = work / 'copy'
-    for folder in ('crates/programs/src', 'host', 'kit/bin'):
+    for folder in ('crates/programs/src', 'kit/bin'):
         (copy / folder).mkdir(parents=True)
-    (copy / 'crates.txt').write_text('programs: io\n')
-    (copy / 'crates/programs/src/lib.rt').write_text('')
-    shutil.copy(ROOT / 'host' / 'program.c', copy / 'host')
+    (copy / 'crates.txt').write_text('programs:\n')
+    (copy / 'crates/programs/src/main.rt').write_text('')
     launcher = shutil.copy(RUN, copy)
     hold('no toolchain', run('walk', command=launcher, environment=bare()), b'', 3, ('run: the Rattle toolchain is missing', 'PATH'))
     hold('no toolchain where it is said to be', run('walk', command=launcher, environment={**bare(), 'RATTLE_HOME': '/nowhere'}), b'', 3, ('missing', '/nowhere/bin/rt'))
     rt = copy / 'kit/bin/rt'
-    rt.write_text('#!/bin/sh\necho "rt: $*: programs NOT PROVED"\nexit 1\n')
+    rt.write_text('#!/bin/sh\necho "rt: $1: programs NOT PROVED" >&2\nexit 1\n')
     rt.chmod(0o755)
     ended = run('judge', command=launcher, environment={**bare(), 'RATTLE_HOME': str(copy / 'kit')})
     hold('a proof that fails', ended, b'', 3, ('run: building',))
-    if 'rt: check: programs NOT PROVED' not in ended.said or 'were not built' not in ended.said:
+    if 'rt: run: programs NOT PROVED' not in ended.said or 'were not built' not in ended.said:
         stop(f'a proof that fails is told so: {ended.said}')
 
 
@@ -569,15 +562,15 @@ def toolchain():
 def prepare():
     if subprocess.run([RUN, 'build']).returncode != 0:
         sys.exit('host/io.py: the programs were not built, as is said above')
-    compiler = os.environ.get('CC') or ('x86_64-linux-gnu-gcc' if ARM else 'gcc')
+    compiler = os.environ.get('CC') or 'gcc'
     words = [*compiler.split(), '-std=c99', '-Wall', '-Wextra', '-Wpedantic', '-Werror', '-O2', '-shared', '-fPIC', '-o', work / 'fail.so', ROOT / 'host' / 'fail.c']
     if not shutil.which(words[0]) or subprocess.run(words).returncode != 0:
-        sys.exit(f'host/io.py: {compiler} does not build host/fail.c. On Debian it wants gcc, on Arm gcc-x86-64-linux-gnu')
+        sys.exit(f'host/io.py: {compiler} does not build host/fail.c. On Debian it wants gcc')
 
 
 def main():
     prepare()
-    if not run('walk', environment=faults('walk')).calls:
+    if not run('walk', environment=faults()).calls:
         stop('host/fail.c is not loaded: its log stays empty')
     for part in (refusals, toolchain, walk_reads, draw_reads, judge_reads, interrupted, failed_writes, descriptors, goes_away, streams, endless_first_line, longest_first_line,
                  hints, shows, failed_shows, salvages, failed_salvages, refused_salvages, closed_salvages, killed_salvage, progress, stack):

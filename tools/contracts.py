@@ -16,29 +16,30 @@ import pathlib
 import re
 import sys
 
-from braces import closing
+from braces import closing, code
 from one_answer import missing
 
 LONGEST = 40
-HEAD = re.compile(r'^[ \t]*(pub(?:\([a-z]+\))?[ \t]+)?(?:extern[ \t]+"C"[ \t]+)?fn[ \t]+(\w+)', re.M)
-
-IMPL = re.compile(r'^impl\b[^{]*?(\w+)\s*\{', re.M)
+HEAD = re.compile(r'^[ \t]*(pub(?:\([a-z]+\))?[ \t]+)?(?:(?:const|unsafe|safe|final)[ \t]+)*(?:extern[ \t]+)?fn[ \t]+(\w+)', re.M)
+# `ensures {`, `ensures low {`, `ensures* {`; and of a ghost parameter `ghost n: {`
+CLAUSE = re.compile(r'\b(requires|ensures|ghost)\*?(?:\s+\w+)?\s*:?\s*$')
+IMPL = re.compile(r'^impl\b[^{]*?(\w+)(?:<[^{]*>)?\s*\{', re.M)
 # `path`: modules, type and name, as the proofs spell it (walk.feed, Kernel.step). `signature`: from the name to the first clause.
 Function = collections.namedtuple('Function', 'path line public clauses signature body')
 
 
 def functions(source, modules):
     """The functions with a body of a source that stands for these modules."""
-    text = re.sub(r'//[^\n]*', '', source)
+    text = code(source)
     owners = [(m.end() - 1, closing(text, m.end() - 1), m.group(1)) for m in IMPL.finditer(text)]
     for head in HEAD.finditer(text):
         clauses, at = set(), head.end()
         while True:
             brace = text.index('{', at)
-            clause = re.findall(r'\b(requires|ensures|ghost)\s*$', text[at:brace])
+            clause = CLAUSE.search(text[at:brace])
             if not clause:
                 break
-            clauses.add(clause[0])
+            clauses.add(clause.group(1))
             at = closing(text, brace)
         if ';' in re.sub(r'\[[^\]]*\]', '', text[at:brace]):
             continue  # declared only

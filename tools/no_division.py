@@ -2,7 +2,7 @@
 """Holds the printing of walk, draw, judge, salvage and show free of division and of remainder, which is division too.
 
     python3 tools/no_division.py            the sources of the crates that print: no operator / or %, no decimal of the toolchain's
-    python3 tools/no_division.py --built    the programs in target/run, as ./run builds them, as machine code: no division instruction
+    python3 tools/no_division.py --built    the program target/run/programs, which is all five, as machine code: no division instruction
 
 The sources are read as text, without comments, texts and contracts (a contract may divide: it is never run). The machine code is read by objdump. Each
 sees what the other does not: a compiler makes of a division by a constant a multiplication, or a shift, which the machine code does not tell from
@@ -10,12 +10,11 @@ others; and it may make a division of a loop that subtracts, which no source sho
 """
 import os
 import pathlib
-import platform
 import re
 import subprocess
 import sys
 
-from braces import closing
+from braces import blank, closing, code as without_texts
 
 ROOT = pathlib.Path(__file__).resolve().parent.parent
 # From a number to its bytes, and whether there is room for them; in judge_record a record's number is found.
@@ -26,13 +25,11 @@ PRINTING = ('decimal', 'decimal_read', 'decimal_print', 'text', 'text_word', 'te
 
 def code(path):
     """The source with blanks for what is not run: comments, texts, contracts."""
-    def blank(part):
-        return re.sub(r'[^\n]', ' ', part)
-    text = re.sub(r'''b"(?:\\.|[^"\\])*"|b'(?:\\.|[^'\\])'|//[^\n]*''', lambda m: blank(m.group()), path.read_text())
-    for clause in re.finditer(r'\b(?:requires|ensures)\s*\{', text):
+    text = without_texts(path.read_text())
+    for clause in re.finditer(r'\b(?:requires|ensures|invariant)\*?(?:\s+\w+)?\s*\{|^[ \t]*(?:pub )?ghost \w+: \{', text, flags=re.M):
         end = closing(text, clause.end() - 1)
         text = text[:clause.start()] + blank(text[clause.start():end]) + text[end:]
-    return re.sub(r'^ghost use [^;]*;', lambda m: blank(m.group()), text, flags=re.M)
+    return re.sub(r'^[ \t]*ghost use [^;]*;', lambda m: blank(m.group()), text, flags=re.M)
 
 
 def sources():
@@ -44,7 +41,7 @@ def sources():
         for path in files:
             count += 1
             for number, line in enumerate(code(path).split('\n'), 1):
-                if re.search(r'[/%]|\bprint_decimal\b|\bprint_hex\b', line):
+                if re.search(r'[/%]|\bprint_decimal\b|\bprint_hex\b|\bdiv_euclid\b|\brem_euclid\b|\b\w+_(?:div|rem)\b', line):
                     wrong.append(f'{path.relative_to(ROOT)}:{number}: {line.strip()}')
     if wrong:
         sys.exit('no_division: the printing divides:\n' + '\n'.join(wrong))
@@ -54,19 +51,19 @@ def sources():
 # A quotient by a constant is the upper half of a product, so a multiplication that keeps that half is looked for too.
 DIVISION = re.compile(r'i?div[bwlq]?$|mul[bwlq]?$|mulx')
 # Document 01 draws by remainders, so draw divides where it draws: in these functions, or in those that the compiler has put them into.
-DRAWS = re.compile(r'generator::|session_draw::draw_|programs_draw::|rvn_program_draw$')
+DRAWS = re.compile(r'generator(?:_\w+)?::|session_draw::draw_|programs_draw::')
+PROGRAM = ROOT / 'target' / 'run' / 'programs'
 
 
-def divisions(program):
-    """How many instructions a program has, and the functions that divide with the instruction."""
-    path = ROOT / 'target' / 'run' / program
-    if not path.exists():
-        sys.exit(f'no_division: target/run/{program} is not there; build it first: ./run build')
-    tool = os.environ.get('OBJDUMP') or ('objdump' if platform.machine() == 'x86_64' else 'x86_64-linux-gnu-objdump')
+def divisions():
+    """How many instructions the program has, and the functions that divide with the instruction."""
+    if not PROGRAM.exists():
+        sys.exit('no_division: target/run/programs is not there; build it first: ./run build')
+    tool = os.environ.get('OBJDUMP') or 'objdump'
     try:
-        text = subprocess.run([tool, '-d', '--no-show-raw-insn', path], stdout=subprocess.PIPE, check=True, text=True).stdout
+        text = subprocess.run([tool, '-d', '--no-show-raw-insn', PROGRAM], stdout=subprocess.PIPE, check=True, text=True).stdout
     except FileNotFoundError:
-        sys.exit(f'no_division: {tool} is missing; install it (Debian: binutils, on Arm binutils-x86-64-linux-gnu), or name one in OBJDUMP')
+        sys.exit(f'no_division: {tool} is missing; install it (Debian: binutils), or name one in OBJDUMP')
     count, function, found = 0, '', []
     for line in text.split('\n'):
         head = re.match(r'[0-9a-f]+ <(.+)>:', line)
@@ -77,18 +74,17 @@ def divisions(program):
             if DIVISION.match(said.group(1)) or said.group(1).startswith('imul') and ',' not in said.group(2):
                 found.append((function, said.group(1)))
     if count < 1000:
-        sys.exit(f'no_division: {tool} reads {count} instructions in target/run/{program}, which has thousands; is it an objdump for x86-64?')
+        sys.exit(f'no_division: {tool} reads {count} instructions in target/run/programs, which has thousands; is it an objdump for x86-64?')
     return count, found
 
 
 def built():
-    for program in ('walk', 'judge', 'salvage', 'show', 'draw'):
-        count, found = divisions(program)
-        drawn = [f for f in found if program == 'draw' and DRAWS.match(f[0]) and 'div' in f[1]]
-        wrong = [f'{function}: {said}' for function, said in found if (function, said) not in drawn]
-        if wrong:
-            sys.exit(f'no_division: the machine code of {program} divides:\n' + '\n'.join(wrong))
-        print(f'no_division: {program} has {count} instructions and no division' + (f' but the {len(drawn)} of its draws' if drawn else ''))
+    count, found = divisions()
+    drawn = [f for f in found if DRAWS.match(f[0]) and 'div' in f[1]]
+    wrong = [f'{function}: {said}' for function, said in found if (function, said) not in drawn]
+    if wrong:
+        sys.exit('no_division: the machine code of walk, draw, judge, salvage and show divides:\n' + '\n'.join(wrong))
+    print(f'no_division: the program that is walk, draw, judge, salvage and show has {count} instructions and no division but the {len(drawn)} of the draws')
 
 
 def main():

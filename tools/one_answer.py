@@ -1,16 +1,16 @@
 """Which public functions have no statement that no second answer meets their contract. For tools/contracts.py.
 
-A crate's proofs/Single states it of its function f as `f-single` (`m-f-single` for f of a module m, where two modules have an f), by
+A crate's proofs/Single states it of its function f as `f_single` (`m_f_single` for f of a module m, where two modules have an f), by
 `OneAnswer`, or by `OneEnd` where f was lent something to change, over the clauses of f itself (crate one_answer, proofs/Law). What is
 seen of an end then has the answer, where there is one, and the contents of each thing lent. That it holds is the toolchain's to prove.
 """
 import collections
 import re
 
-# a function's clauses brought in, with or without another name
-BROUGHT = re.compile(r'^use Rattle·\w+·proofs\.proofs\.([\w.]+?)(?: as ([\w-]+))?$', re.M)
+# functions' clauses brought in, one or several from one module, each with or without another name
+BROUGHT = re.compile(r'^use Rattle\.\w+\.specs\.contracts\.((?:\w+\.)*)(?:([\w-]+(?: as [\w-]+)?)|\{([^}]*)\})$', re.M)
 # a statement over such a name, with what is seen of an end
-STATED = re.compile(r'^  pub ([\w-]+)-single : (OneAnswer|OneEnd) 𝓤 ([\w-]+)\.ended \(\3\.clauses 𝓤 H A mem run\)(.*?)^  \1-single ', re.M | re.S)
+STATED = re.compile(r'^  pub ([\w-]+)_single : (OneAnswer|OneEnd) 𝓤 ([\w-]+)\.ended \(\3\.clauses 𝓛 mem run\)(.*?)^  \1_single ', re.M | re.S)
 Statement = collections.namedtuple('Statement', 'name kind seen')
 
 
@@ -19,15 +19,18 @@ def statements(proofs):
     single, listed = proofs / 'Single.antt', proofs / 'Lib.antt'
     if not single.exists() or not re.search(r'^(?:pub )?mod Single$', listed.read_text(), re.M):
         return {}
-    text = single.read_text()
-    paths = {m.group(2) or m.group(1).split('.')[-1]: m.group(1) for m in BROUGHT.finditer(text)}
+    text, paths = single.read_text(), {}
+    for module, one, several in BROUGHT.findall(text):
+        for brought in [one] if one else [word.strip() for word in several.split(',') if word.strip()]:
+            name, _, other = brought.partition(' as ')
+            paths[other or name.split('.')[-1]] = module + name
     return {paths.get(m.group(3)): Statement(m.group(1), m.group(2), m.group(4)) for m in STATED.finditer(text)}
 
 
 def names(path):
-    """The names that a function's statement may have: its own, or with its module's or type's before it."""
-    words = path.lower().replace('_', '-').split('.')
-    return {words[-1], '-'.join(words[-2:])}
+    """The names that a function's statement may have: its own, or with its module's or type's before it, in snake case."""
+    words = [re.sub(r'(?<=[a-z0-9])(?=[A-Z])', '_', word).lower() for word in path.split('.')]
+    return {words[-1], '_'.join(words[-2:])}
 
 
 def fault(function, stated):
@@ -37,7 +40,7 @@ def fault(function, stated):
     lent = len(re.findall(r"&\s*(?:'\w+\s+)?mut\b", function.signature))
     if stated.kind == 'OneAnswer':
         return 'is lent something to change, and its statement is of the answer alone' if lent else None
-    if len(re.findall(r'\bnow \(e\b', stated.seen)) != lent:
+    if len(re.findall(r'\be(?:\.\d+)*\.now\b', stated.seen)) != lent:
         return 'is stated to have one end, and what is seen of it is not each thing that it was lent to change'
     if '->' in function.signature and not re.search(r'λ κs r e\..*\br\b', stated.seen, re.S):
         return 'is stated to have one end, and its answer is not seen'
