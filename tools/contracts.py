@@ -25,7 +25,8 @@ HEAD = re.compile(r'^[ \t]*(pub(?:\([a-z]+\))?[ \t]+)?(?:(?:const|unsafe|safe|fi
 CLAUSE = re.compile(r'\b(requires|ensures|ghost)\*?(?:\s+\w+)?\s*:?\s*$')
 IMPL = re.compile(r'^impl\b[^{]*?(\w+)(?:<[^{]*>)?\s*\{', re.M)
 # `path`: modules, type and name, as the proofs spell it (walk.feed, Kernel.step). `signature`: from the name to the first clause.
-Function = collections.namedtuple('Function', 'path line public clauses signature body')
+# `length`: how many lines lie between its first and its last.
+Function = collections.namedtuple('Function', 'path line length public clauses signature body')
 
 
 def functions(source, modules):
@@ -46,12 +47,18 @@ def functions(source, modules):
         owner = [name for start, end, name in owners if start < head.start() < end]
         yield Function(
             path='.'.join(modules + owner + [head.group(2)]),
-            line=text.count('\n', 0, head.start()) + 1,
+            line=text.count('\n', 0, head.start(2)) + 1,
+            length=text.count('\n', head.start(2), closing(text, brace)),
             public=(head.group(1) or '').strip() == 'pub',
             clauses=clauses,
             signature=text[head.end():text.index('{', head.end())],
             body=text[brace:closing(text, brace)],
         )
+
+
+def modules_of(path):
+    """The modules for which the source of this path stands, below a crate's folder (src/lib.rt: none)."""
+    return [part for part in (*path.parts[1:-1], path.stem) if part not in ('lib', 'main', 'mod')]
 
 
 def faults(function):
@@ -72,8 +79,7 @@ def main():
     count, public, broken = 0, collections.defaultdict(list), []
     for path in sorted(root.glob('crates/*/src/**/*.rt')):
         below = path.relative_to(root).parts
-        modules = [part for part in (*below[3:-1], path.stem) if part not in ('lib', 'main', 'mod')]
-        for function in functions(path.read_text(), modules):
+        for function in functions(path.read_text(), modules_of(pathlib.PurePath(*below[2:]))):
             count += 1
             place = f'{path.relative_to(root)}:{function.line}: {function.path}'
             broken += [f'{place} {said}' for said in faults(function)]
@@ -93,4 +99,5 @@ def main():
     return 0
 
 
-sys.exit(main())
+if __name__ == '__main__':
+    sys.exit(main())
