@@ -8,7 +8,7 @@ ghost use Rattle.tape_reader.specs.Reader.{Opened, Next};
 
 use tape::{code_at, next_at, part_at};
 
-// A tape and a place on it. The borrow checker covers no function over it, so there are two, and both are thin.
+// A tape and a place on it.
 #[derive(Drop)]
 pub struct Reader<'a> {
     pub tape: &'a [u8],
