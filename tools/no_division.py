@@ -1,12 +1,15 @@
 #!/usr/bin/env python3
 """Holds the printing of walk, draw, judge, salvage and show free of division and of remainder, which is division too.
 
-    python3 tools/no_division.py            the sources of the crates that print: no operator / or %, no decimal of the toolchain's
+    python3 tools/no_division.py            the sources of the crates that print: no operator / or %, no decimal of the toolchain's (its formatting macros)
     python3 tools/no_division.py --built    the program target/run/programs, which is all five, as machine code: no division instruction
 
 The sources are read as text, without comments, texts and contracts (a contract may divide: it is never run). The machine code is read by objdump. Each
 sees what the other does not: a compiler makes of a division by a constant a multiplication, or a shift, which the machine code does not tell from
 others; and it may make a division of a loop that subtracts, which no source shows.
+
+One place alone formats: crates/programs_flow/src/reason.rt, which takes the system's own words for a failure from the toolchain, with the number of the failure
+behind them, and cuts that off. It stands on standard error, and no number that a program prints goes through it.
 """
 import os
 import pathlib
@@ -20,7 +23,10 @@ ROOT = pathlib.Path(__file__).resolve().parent.parent
 # From a number to its bytes, and whether there is room for them; in judge_record a record's number is found.
 PRINTING = ('decimal', 'decimal_read', 'decimal_print', 'text', 'text_word', 'text_command', 'text_first', 'text_split', 'text_print', 'session', 'session_walk',
             'session_stage', 'session_draw', 'show_text', 'show_print', 'session_show', 'judge_record', 'judging', 'report', 'salvage_print', 'programs_hint', 'programs_walk', 'programs_draw', 'programs_judge',
-            'programs_salvage', 'programs_show', 'programs', 'walk')
+            'programs_salvage', 'programs_show', 'programs_flow', 'programs', 'walk')
+FORMATTED = ROOT / 'crates' / 'programs_flow' / 'src' / 'reason.rt'
+# How a source would have the toolchain make a decimal, or divide.
+DIVIDES = re.compile(r'[/%]|\b(?:e?print(?:ln)?|write(?:ln)?|format(?:_args)?)!|\bto_string\b|\b(?:div|rem)_euclid\b|\b\w+_(?:div|rem)\b')
 
 
 def code(path):
@@ -41,7 +47,7 @@ def sources():
         for path in files:
             count += 1
             for number, line in enumerate(code(path).split('\n'), 1):
-                if re.search(r'[/%]|\bprint_decimal\b|\bprint_hex\b|\bdiv_euclid\b|\brem_euclid\b|\b\w+_(?:div|rem)\b', line):
+                if DIVIDES.search(line.replace('write!', '') if path == FORMATTED else line):
                     wrong.append(f'{path.relative_to(ROOT)}:{number}: {line.strip()}')
     if wrong:
         sys.exit('no_division: the printing divides:\n' + '\n'.join(wrong))
@@ -52,6 +58,8 @@ def sources():
 DIVISION = re.compile(r'i?div[bwlq]?$|mul[bwlq]?$|mulx')
 # Document 01 draws by remainders, so draw divides where it draws: in these functions, or in those that the compiler has put them into.
 DRAWS = re.compile(r'generator(?:_\w+)?::|session_draw::draw_|programs_draw::')
+# The toolchain's decimals are linked for the reason of a failure.
+REASON = re.compile(r'core::fmt::|programs_flow::reason::')
 PROGRAM = ROOT / 'target' / 'run' / 'programs'
 
 
@@ -81,10 +89,12 @@ def divisions():
 def built():
     count, found = divisions()
     drawn = [f for f in found if DRAWS.match(f[0]) and 'div' in f[1]]
-    wrong = [f'{function}: {said}' for function, said in found if (function, said) not in drawn]
+    reasons = [f for f in found if REASON.match(f[0])]
+    wrong = [f'{function}: {said}' for function, said in found if (function, said) not in drawn + reasons]
     if wrong:
         sys.exit('no_division: the machine code of walk, draw, judge, salvage and show divides:\n' + '\n'.join(wrong))
-    print(f'no_division: the program that is walk, draw, judge, salvage and show has {count} instructions and no division but the {len(drawn)} of the draws')
+    print(f'no_division: the program that is walk, draw, judge, salvage and show has {count} instructions and no division but the {len(drawn)} of the draws'
+          f' and the {len(reasons)} in the number of a failure, which is not printed')
 
 
 def main():

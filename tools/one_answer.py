@@ -9,8 +9,10 @@ import re
 
 # functions' clauses brought in, one or several from one module, each with or without another name
 BROUGHT = re.compile(r'^use Rattle\.\w+\.specs\.contracts\.((?:\w+\.)*)(?:([\w-]+(?: as [\w-]+)?)|\{([^}]*)\})$', re.M)
-# a statement over such a name, with what is seen of an end
-STATED = re.compile(r'^  pub ([\w-]+)_single : (OneAnswer|OneEnd) 𝓤 ([\w-]+)\.ended \(\3\.clauses 𝓛 mem run\)(.*?)^  \1_single ', re.M | re.S)
+# a statement over such a name, with what is seen of an end; of a generic function it is of every type, and of all that the function knows of it
+STATED = re.compile(
+    r'^  pub ([\w-]+)_single :\s+(?:(?:[({][\w ]+ : (?:RattleType|Ghosts \w+\.Denot|Dict)[)}]\s+)+→\s+)?'
+    r'(OneAnswer|OneEnd) 𝓤 (?:([\w-]+)\.ended \(\3\.clauses|\(([\w-]+)\.ended( [\w ]+)\)\s+\(\4\.clauses\5) 𝓛 mem run\)(.*?)^  \1_single ', re.M | re.S)
 Statement = collections.namedtuple('Statement', 'name kind seen')
 
 
@@ -24,7 +26,7 @@ def statements(proofs):
         for brought in [one] if one else [word.strip() for word in several.split(',') if word.strip()]:
             name, _, other = brought.partition(' as ')
             paths[other or name.split('.')[-1]] = module + name
-    return {paths.get(m.group(3)): Statement(m.group(1), m.group(2), m.group(4)) for m in STATED.finditer(text)}
+    return {paths.get(m.group(3) or m.group(4)): Statement(m.group(1), m.group(2), m.group(6)) for m in STATED.finditer(text)}
 
 
 def names(path):

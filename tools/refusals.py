@@ -11,7 +11,7 @@ counts only where a fact fails:
   - one that follows from another does not count: what it uses was not proved;
   - one of shape does not: a name, a field, a case or an argument that is not there, a limit of the prover, and every error in specs/ and src/, where no fact is
     proved. Nor may such a one be the first.
-An error in proofs/F/Answers.antt, or another file there, is of function F and of a goal of it. A goal of F is named as `F`, as the goal, or as `F::GOAL`.
+An error in proofs/F/Answers.antt, or another file there, is of function F and of a goal of it. It is named as `F`, as `GOAL`, or as `F (GOAL)`.
 """
 import pathlib
 import re
@@ -38,15 +38,19 @@ SHAPE = re.compile(
 )
 
 
+def parts(name):
+    return set(re.findall(r'[^\s:./()]+', name))
+
+
 class Place:
-    """Where a fact fails: the lemma, or the function and its goal, each as its parts."""
+    """Where a fact fails: the lemma, or the function and its goal."""
 
     def __init__(self, name, goal=None, shape=False, line=''):
-        self.text = '::'.join(part for part in (name, goal) if part)
-        self.parts, self.shape, self.line = set(re.split(r'::|\.', self.text)), shape, line
+        self.text = f'{name} ({goal})' if name and goal else name or goal or ''
+        self.shape, self.line = shape, line
 
     def is_named(self, name):
-        return set(re.split(r'::|\.|/|: ', name)) <= self.parts
+        return parts(name) <= parts(self.text)
 
 
 def function_at(text, path, line):
