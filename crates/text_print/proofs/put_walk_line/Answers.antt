@@ -1,0 +1,28 @@
+-- `text_print::put_walk_line` meets its contract: refused where there is no room, else put. Assumes nothing.
+use Prim.Native.Nat.{◌+◌}
+use native.Mathlib.Omega.{arith}
+use mathlib.Core.Path.{sym, ◌∙◌}
+use borrow.Author.Tests.{leb-true, leb-false}
+use lib.ListN.{length}
+use Rattle.text.specs.Printed.{walk_line}
+use Rattle.decimal.proofs.Stores.{refused}
+use Rattle.text.proofs.Stores.{written}
+use Rattle.text_print.proofs.put_walk_line.Goals as goal
+
+pub walk_fields-requires : goal.walk_fields-requires
+walk_fields-requires c =
+    let a = c.args in
+    omega (arith, leb-true (a.at + 128) (length a.out.now) (sym c.has_room.ensures ∙ c.if-has_room.true))
+
+pub returns-then-has_room : goal.returns-then-has_room
+returns-then-has_room c =
+    let a = c.args in
+    written 128 a.out.now a.at (walk_line a.row) c.walk_fields.new.out c.walk_fields.result
+    (leb-true (a.at + 128) (length a.out.now) (sym c.has_room.ensures
+    ∙ c.if-has_room.true)) c.walk_fields.ensures
+
+pub returns : goal.returns
+returns c =
+    let a = c.args in
+    refused 128 a.out.now a.at (walk_line a.row)
+    (leb-false (a.at + 128) (length a.out.now) (sym c.has_room.ensures ∙ c.if-has_room.false))
