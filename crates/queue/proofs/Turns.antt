@@ -5,17 +5,14 @@ use native.Mathlib.Omega.{arith}
 use mathlib.Core.Path.{◌≡◌, refl, sym, ◌∙◌}
 use mathlib.Core.Logic.{◌≢◌, ⊎_elim}
 use mathlib.Core.Bool.{Bool, true, false, cond, ◌&&◌}
-use mathlib.Core.List.{List, [], ◌∷◌, ◌++◌, append_assoc, append-nil}
-use lib.Dec.{eqb, leb}
+use mathlib.Core.List.{List, ◌++◌, append_assoc, append-nil}
+use lib.Dec.{eqb}
 use lib.ListN.{length, take, drop, set, drop_of_length-le}
 use lib.Seq.{drop-cons, take-suc-set, take_all}
-use types.Run.{OneOf, miss}
-use denote.Enum.Declared.{tag_of}
 use borrow.Author.Tests.{eq-eqb, ne_eqb, lt-ltb, le-ltb}
 use Rattle.rules.specs.Line.{at, one_if}
 use Rattle.rules.specs.declared.Kind.{Kind}
 use Rattle.rules.specs.declared.Kind.TheVariants.{NoKind, Creating, Declaring, Starting, Delaying, Waking, Advancing, Opening, Entering, Ending}
-use Rattle.rules.specs.contracts.Kind.{the_type}
 use Rattle.rules.proofs.Lists.{lt_or_ge}
 use Rattle.kernel_line.specs.Tables.{more, time_in, with_time}
 use Rattle.kernel_line.proofs.Laws.{read_out, store_out}
@@ -134,20 +131,11 @@ module _ (q : Queue) where
         go true = omega arith
         go false = refl
 
--- ## Beside a machine: by the tag of the kind, as the code tells it
+-- ## Beside a machine: by the kind, as the code tells it
 module _ (q : Queue) (now n t : ℕ) where
-  on_delay : (k : Kind) → OneOf (4 ∷ []) (tag_of the_type k) → delayed now n t q ≡ follow k now n t q
+  on_delay : (k : Kind) → k ≡ Delaying → delayed now n t q ≡ follow k now n t q
   unfolding follow
-  on_delay NoKind h = absurd (miss (4 ∷ []) 0 tt h)
-  on_delay Creating h = absurd (miss (4 ∷ []) 1 tt h)
-  on_delay Declaring h = absurd (miss (4 ∷ []) 2 tt h)
-  on_delay Starting h = absurd (miss (4 ∷ []) 3 tt h)
-  on_delay Delaying h = refl
-  on_delay Waking h = absurd (miss (4 ∷ []) 5 tt h)
-  on_delay Advancing h = absurd (miss (4 ∷ []) 6 tt h)
-  on_delay Opening h = absurd (miss (4 ∷ []) 7 tt h)
-  on_delay Entering h = absurd (miss (4 ∷ []) 8 tt h)
-  on_delay (Ending e) h = absurd (miss (4 ∷ []) 9 tt h)
+  on_delay k h = rw h
 
   is_above : now < n → insert n t q ≡ delayed now n t q
   unfolding delayed
@@ -157,34 +145,25 @@ module _ (q : Queue) (now n t : ℕ) where
       go true e = refl
       go false e = let k = above_not now n e in absurd (omega arith)
 
-  pub follow_above : (k : Kind) → OneOf (4 ∷ []) (tag_of the_type k) → now < n → insert n t q ≡ follow k now n t q
+  pub follow_above : (k : Kind) → k ≡ Delaying → now < n → insert n t q ≡ follow k now n t q
   follow_above k h l = is_above l ∙ on_delay k h
 
-  pub follow_not : (k : Kind) → OneOf (4 ∷ []) (tag_of the_type k) → n ≤ now → q ≡ follow k now n t q
+  pub follow_not : (k : Kind) → k ≡ Delaying → n ≤ now → q ≡ follow k now n t q
   follow_not k h l = sym (delayed_not now n t q l) ∙ on_delay k h
 
-  pub follow_wake : (k : Kind) → OneOf (5 ∷ []) (tag_of the_type k) → wake now q ≡ follow k now n t q
+  pub follow_wake : (k : Kind) → k ≡ Waking → wake now q ≡ follow k now n t q
   unfolding follow
-  follow_wake NoKind h = absurd (miss (5 ∷ []) 0 tt h)
-  follow_wake Creating h = absurd (miss (5 ∷ []) 1 tt h)
-  follow_wake Declaring h = absurd (miss (5 ∷ []) 2 tt h)
-  follow_wake Starting h = absurd (miss (5 ∷ []) 3 tt h)
-  follow_wake Delaying h = absurd (miss (5 ∷ []) 4 tt h)
-  follow_wake Waking h = refl
-  follow_wake Advancing h = absurd (miss (5 ∷ []) 6 tt h)
-  follow_wake Opening h = absurd (miss (5 ∷ []) 7 tt h)
-  follow_wake Entering h = absurd (miss (5 ∷ []) 8 tt h)
-  follow_wake (Ending e) h = absurd (miss (5 ∷ []) 9 tt h)
+  follow_wake k h = rw h
 
-  pub follow_other : (k : Kind) → OneOf (0 ∷ 1 ∷ 2 ∷ 3 ∷ 6 ∷ 7 ∷ 8 ∷ 9 ∷ []) (tag_of the_type k) → q ≡ follow k now n t q
+  pub follow_other : (k : Kind) → k ≢ Delaying → k ≢ Waking → q ≡ follow k now n t q
   unfolding follow
-  follow_other NoKind h = refl
-  follow_other Creating h = refl
-  follow_other Declaring h = refl
-  follow_other Starting h = refl
-  follow_other Delaying h = absurd (miss (0 ∷ 1 ∷ 2 ∷ 3 ∷ 6 ∷ 7 ∷ 8 ∷ 9 ∷ []) 4 tt h)
-  follow_other Waking h = absurd (miss (0 ∷ 1 ∷ 2 ∷ 3 ∷ 6 ∷ 7 ∷ 8 ∷ 9 ∷ []) 5 tt h)
-  follow_other Advancing h = refl
-  follow_other Opening h = refl
-  follow_other Entering h = refl
-  follow_other (Ending e) h = refl
+  follow_other NoKind h g = refl
+  follow_other Creating h g = refl
+  follow_other Declaring h g = refl
+  follow_other Starting h g = refl
+  follow_other Delaying h g = absurd (h refl)
+  follow_other Waking h g = absurd (g refl)
+  follow_other Advancing h g = refl
+  follow_other Opening h g = refl
+  follow_other Entering h g = refl
+  follow_other (Ending e) h g = refl

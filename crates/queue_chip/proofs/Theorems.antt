@@ -12,7 +12,6 @@ use lib.ListN.{length}
 use Rattle.rules.specs.Line.{at, count, front, behind_front, empty, by_time}
 use Rattle.rules.specs.Machine.{Machine, Command, task_count, tasks, runner}
 use Rattle.rules.specs.Machine as M
-use Rattle.rules.specs.Refusals.{refusal}
 use Rattle.rules.specs.Sound.{sound}
 use Rattle.rules.specs.Run.{accepts, released, wakes_left}
 use Rattle.rules.specs.Run as R
