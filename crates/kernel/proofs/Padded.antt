@@ -1,7 +1,7 @@
 -- Laws of padded lines and of times by task: what is written, and what is read of it. Assumes nothing.
 use Prim.Native.Nat.{ℕ, zero, suc, ◌+◌, ◌≤◌, ◌<◌}
 use native.Mathlib.Omega.{arith}
-use mathlib.Core.Path.{◌≡◌, refl, sym, ap, ◌∙◌}
+use mathlib.Core.Path.{◌≡◌, refl, sym, ap, ◌∙◌, subst}
 use mathlib.Core.Logic.{◌≢◌}
 use mathlib.Core.List.{List, [], ◌∷◌, ◌++◌, map}
 use mathlib.Core.Bool.{Bool, true, false, cond, not, ◌||◌}
@@ -59,7 +59,7 @@ zeros_ended [] h = refl
 zeros_ended (y ∷ l) h =
     let w = both_true (eqb y 0) (zeros l) h in
     let e : y ≡ 0 = eqb-true y 0 w.0 in
-    rw (e, zeros_ended l w.1)
+    subst (λ (v : ℕ). ended (0 ∷ v ∷ l) ≡ true) (sym e) (zeros_ended l w.1)
 
 ended_cons : (x : ℕ) (l : List ℕ) → x ≢ 0 → ended l ≡ true → ended (x ∷ l) ≡ true
 ended_cons x [] n h = refl

@@ -1,6 +1,6 @@
 -- The code's test of a saved state is isSound: the tables are tidy, and the machine that they stand for is sound; no more and no less.
 -- What the test finds out (Passed) gives each of document 01's conditions, and each of those gives what it looks for. Assumes nothing.
-use Prim.Native.Nat.{ℕ, ◌+◌, ◌≤◌, ◌<◌, ◌^◌}
+use Prim.Native.Nat.{ℕ, ◌≤◌, ◌<◌, ◌^◌}
 use native.Mathlib.Omega.{arith}
 use mathlib.Core.Path.{◌≡◌, refl, sym, ap, ◌∙◌, subst}
 use mathlib.Core.Logic.{◌≢◌, ⊎_elim}

@@ -57,11 +57,11 @@ module _ (m : Machine) (s : Sound m) where
   waiter_tie o = get_or-map (front 0) m.queue o []
 
 -- Wake: the first of the delay line, if it is due.
-due_of : (l : List (ℕ × ℕ)) (u : List ℕ) (now : ℕ) → All (Right u) l → All (λ x. (x < 32) × (x ≢ 0)) (tasks l)
+due_of_line : (l : List (ℕ × ℕ)) (u : List ℕ) (now : ℕ) → All (Right u) l → All (λ x. (x < 32) × (x ≢ 0)) (tasks l)
     → cond (leb (time_in u (at (pad 32 (tasks l)) 0)) now) (at (pad 32 (tasks l)) 0) 0
     ≡ cond (not (empty l) && leb (front (0, 0) l).0 now) (front 0 (tasks l)) 0
-due_of [] u now r k = elim (leb (time_in u 0) now) as (λ (b : Bool). cond {A = ℕ} b 0 0 ≡ 0) [ true ↦ refl | false ↦ refl ]
-due_of (e ∷ l) u now r k = rw (lt-ltb e.1 32 k.0.0, r.0.0)
+due_of_line [] u now r k = elim (leb (time_in u 0) now) as (λ (b : Bool). cond {A = ℕ} b 0 0 ≡ 0) [ true ↦ refl | false ↦ refl ]
+due_of_line (e ∷ l) u now r k = rw (lt-ltb e.1 32 k.0.0, r.0.0)
 
 due_first : (l : List (ℕ × ℕ)) (now : ℕ) → not (empty l) && leb (front (0, 0) l).0 now ≡ true → first_alone (tasks l) ≡ front 0 (tasks l) ∷ []
 due_first [] now e = absurd (true≢false (sym e))
@@ -74,7 +74,7 @@ first_real (x ∷ l) k e = k.0.1
 module _ (m : Machine) (s : Sound m) (on : m.started ≡ true) where
   due_tie : due_of (encode m) ≡ cond (first_due m) (front 0 (tasks m.delay)) 0
   unfolding encode
-  due_tie = due_of m.delay (times m.delay) m.clock (own_right m.delay (sound_own m s)) (delayed_tasks m s)
+  due_tie = due_of_line m.delay (times m.delay) m.clock (own_right m.delay (sound_own m s)) (delayed_tasks m s)
 
   pub wake_tie :
       let rel = cond (first_due m) due none in

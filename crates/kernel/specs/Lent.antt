@@ -1,6 +1,6 @@
 -- The ten tables that a caller lends, as the state that they are: before the call and behind it.
 use Rattle.std.specs.Prelude.{ℕ, ◌≡◌, Bool, List}
-use Rattle.std.specs.Borrow.{Bor}
+use Rattle.std.specs.Borrow.{Bor, MutBor}
 use denote.Triple.Both.{Both}
 use Rattle.kernel.specs.declared.Kernel.{Kernel}
 use Rattle.kernel.specs.declared.Stepped.{Stepped}
@@ -23,10 +23,14 @@ tables b r d h w u c q n s =
 
 -- What is lent: its contents before the call, and behind it.
 abbrev pub Lent : Type 0 → Type 0
-Lent X = Both (Bor X) (Bor X)
+Lent X = Both (MutBor X) (MutBor X)
 
 abbrev pub Table : Type 0
 Table = Lent (List ℕ)
+
+-- a table that is lent to be read
+abbrev pub Shown : Type 0
+Shown = Both (Bor (List ℕ)) (Bor (List ℕ))
 
 -- the state that the lent tables are before the call
 abbrev pub lent : Table → Table → Table → Table → Table → Table → Table → Table → Lent ℕ → Lent Bool → Kernel
@@ -41,7 +45,7 @@ left b r d h w u c q n s =
     c.exit.now q.exit.now n.exit.now s.exit.now
 
 -- the state that six lent tables are with the other four parts by value
-abbrev pub seen : Table → Table → Table → Table → Table → Table → List ℕ → List ℕ → ℕ → Bool → Kernel
+abbrev pub seen : Shown → Shown → Shown → Shown → Shown → Shown → List ℕ → List ℕ → ℕ → Bool → Kernel
 seen b r d h w u c q n s =
     tables b.entry.now r.entry.now d.entry.now h.entry.now w.entry.now u.entry.now c q n s
 

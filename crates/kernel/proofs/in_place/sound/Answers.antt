@@ -6,26 +6,16 @@ use Rattle.kernel.specs.Lent.{tables}
 use Rattle.kernel.proofs.Passed.{Fits}
 use Rattle.kernel.proofs.Tested.{test_same}
 use borrow.Author.Rules.{rules}
-use Rattle.kernel.proofs.in_place.sound.Statement.{statement}
-use Rattle.kernel.proofs.in_place.sound.Tie as tie
+use Rattle.kernel.proofs.in_place.sound.Goals as goal
 
-sized-requires : tie.Need-sized-requires
-sized-requires c κs = search rules
-
-tested-requires : tie.Need-tested-requires
-tested-requires c κs = search rules
-
--- the lent tables, and what their types say
-abbrev lent : tie.Start → Kernel
-lent c =
+pub returns : goal.returns
+returns c =
     let a = c.args in
+    let k : Kernel =
     tables a.base.now a.ready.now a.delayed.now a.held.now a.way.now a.until.now
-    a.ceiling a.waiter a.clock a.started
-
-fits : (c : tie.After-sized) → Fits (lent c.before)
-fits c =
+    a.ceiling a.waiter a.clock a.started in
     let z = c.sized.ensures in
-    record {
+    let fits : Fits k = record {
       sizes = record {
         base = z.0;
         ready = z.1;
@@ -38,10 +28,5 @@ fits c =
       };
       clock = search rules;
       times = z.6;
-    }
-
-returns : tie.Need-returns
-returns c = c.tested.ensures ∙ test_same (lent c.before.before) (fits c.before)
-
-pub sound_spec : {M : Type 1} → statement M
-sound_spec = tie.close (tie.spec sized-requires tested-requires returns)
+    } in
+    c.tested.ensures ∙ test_same k fits
