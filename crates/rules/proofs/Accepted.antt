@@ -17,7 +17,7 @@ use Rattle.rules.specs.declared.End.{End}
 use Rattle.rules.specs.Kinds.{kinds, last_op, kind_at, kind}
 use Rattle.rules.specs.Table.{Out, same, take, yield, sleep, await, Rel, none, due, serve, Effect, nothing, creates, declares, begins, moves, opens}
 use Rattle.rules.specs.Table.{closing, effect_of, effect, freed, enter, release}
-use Rattle.rules.specs.Refusals.{checks_of, checks, first_number, refusal, fits, holds_so}
+use Rattle.rules.specs.Refusals.{checks_of, checks, first_number, refusal, holds_so}
 use Rattle.rules.proofs.Words.{All, Among, closing_ops, releasing_ops}
 use Rattle.rules.proofs.Lists.{all_map, all_few, count_place}
 use Rattle.rules.proofs.Tests.{both_true, tests_is, tests_all_below}
