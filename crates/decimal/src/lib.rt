@@ -3,7 +3,7 @@
 #![tactic(auto)]
 
 // What a word reads as: a number, or (not valid, with 0) none.
-#[derive(Drop)]
+#[derive(Clone, Copy)]
 pub struct Reading {
     pub valid: bool,
     pub value: u64,

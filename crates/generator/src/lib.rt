@@ -15,14 +15,14 @@ pub mod in_place;
 pub use generator_lent::{Generator, advance, xorshift};
 
 // A span and eight weights, in op order 4..11: delay, wake, advance, open, closep, closef, entry, done.
-#[derive(Drop)]
+#[derive(Clone, Copy)]
 pub struct Profile {
     pub span: u32,
     pub weights: [u32; 8],
 }
 
 // The answer of a draw. A refused one has op 0, zero operands and the same seed.
-#[derive(Drop)]
+#[derive(Clone, Copy)]
 pub struct Drawn {
     pub code: u8,
     pub command: Command,
@@ -30,7 +30,7 @@ pub struct Drawn {
 }
 
 // A draw and its step: what is drawn, and what the kernel answers to it.
-#[derive(Drop)]
+#[derive(Clone, Copy)]
 pub struct Carried {
     pub drawn: Drawn,
     pub answer: Answer,

@@ -13,7 +13,7 @@ use kernel::{Answer, Command};
 
 // The answer of a draw, with the draws that it spent: 3 to 24. A refused one has op 0, zero operands and the same seed,
 // and spends none.
-#[derive(Drop)]
+#[derive(Clone, Copy)]
 pub struct Drawn {
     pub code: u8,
     pub command: Command,
@@ -22,7 +22,7 @@ pub struct Drawn {
 }
 
 // A draw and its step: what is drawn, and what the kernel answers to it.
-#[derive(Drop)]
+#[derive(Clone, Copy)]
 pub struct Carried {
     pub drawn: Drawn,
     pub answer: Answer,

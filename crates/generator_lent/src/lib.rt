@@ -18,7 +18,7 @@ pub fn xorshift(x: u32) -> u32
 }
 
 // A seed that is lent, and advanced where it stands.
-#[derive(Drop)]
+#[derive(Clone, Copy)]
 pub struct Generator {
     pub seed: u32,
 }
@@ -33,7 +33,7 @@ pub fn advance(g: &mut Generator) -> u32
 }
 
 // The three draws of a command.
-#[derive(Drop)]
+#[derive(Clone, Copy)]
 pub struct Three {
     pub first: u32,
     pub second: u32,
@@ -58,7 +58,7 @@ pub fn three_draws(seed: u32) -> Three
 // ---- A number below n, by edition 2
 
 // A choice: the number, the seed left behind, and how many draws it spent.
-#[derive(Drop)]
+#[derive(Clone, Copy)]
 pub struct Choice {
     pub number: u32,
     pub seed: u32,

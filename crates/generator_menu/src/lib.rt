@@ -78,7 +78,7 @@ fn nth_eligible(ceiling: [u8; 8], held: &[u8; 32], base: u8, n: u64) -> u8
 
 // Of the runner: it is not idle and holds nothing, or it is inside an open or an entry; the object that it holds, 0 for
 // none; and its base. Of the objects: how many are eligible. Of the clock: the span fits.
-#[derive(Drop)]
+#[derive(Clone, Copy)]
 struct Sight {
     free: bool,
     opened: bool,
@@ -310,7 +310,7 @@ pub fn pick_command(
 // ---- Edition 2
 
 // What a draw of edition 2 makes: the command, the seed left behind, and the draws spent.
-#[derive(Drop)]
+#[derive(Clone, Copy)]
 pub struct Made {
     pub command: Command,
     pub seed: u32,

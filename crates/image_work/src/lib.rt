@@ -396,7 +396,7 @@ fn draw_step_on(
 }
 
 // What is drawn, and the answer to it in one number.
-#[derive(Drop)]
+#[derive(Clone, Copy)]
 struct Done {
     drawn: Drawn,
     told: u32,

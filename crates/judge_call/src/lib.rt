@@ -3,7 +3,7 @@
 #![tactic(auto)]
 
 // The answer of the call, and the numbers that it writes.
-#[derive(Drop)]
+#[derive(Clone, Copy)]
 pub struct Reply {
     pub code: u32,
     pub numbers: [u64; 4],

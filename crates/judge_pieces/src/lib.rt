@@ -6,7 +6,7 @@ use judge_verdict::Stage;
 use kernel::Kernel;
 
 // The records judged so far: the machine behind them, and the place of the next one, which is 16 times its number.
-#[derive(Drop)]
+#[derive(Clone, Copy)]
 pub struct Run {
     pub kernel: Kernel,
     pub place: usize,

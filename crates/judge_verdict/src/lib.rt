@@ -7,7 +7,7 @@ pub use record_kept::Kept;
 
 // The first record that differs: its number (the header is 0), its command, and of the answers what a record keeps:
 // the tape's, and the rules'.
-#[derive(Drop)]
+#[derive(Clone, Copy)]
 pub struct Difference {
     pub number: usize,
     pub command: Command,
@@ -16,14 +16,14 @@ pub struct Difference {
 }
 
 // 15 or 17 as the reader gives them, the record's number, and its byte place.
-#[derive(Drop)]
+#[derive(Clone, Copy)]
 pub struct Refusal {
     pub code: u8,
     pub number: usize,
     pub place: usize,
 }
 
-#[derive(Drop)]
+#[derive(Clone, Copy)]
 pub enum Verdict {
     // every answer is the rules': the number of command records
     Agrees(usize),
@@ -33,13 +33,13 @@ pub enum Verdict {
 
 // The header's seed, and the verdict. Of a header that is refused for its seed (17) that is shown too; where there is
 // no header it is 0.
-#[derive(Drop)]
+#[derive(Clone, Copy)]
 pub struct Judgement {
     pub seed: u64,
     pub verdict: Verdict,
 }
 
-#[derive(Drop)]
+#[derive(Clone, Copy)]
 pub enum Stage {
     // all is right so far
     Going,
@@ -49,7 +49,7 @@ pub enum Stage {
 
 // Where a judge stands beside its machine: the place of the next record, which is 16 times its number, the seed that
 // is shown, and the stage.
-#[derive(Drop)]
+#[derive(Clone, Copy)]
 pub struct Head {
     pub place: usize,
     pub seed: u64,

@@ -22,7 +22,7 @@ pub use kernel::Kernel;
 use record::RECORD_BYTES;
 
 // A judge that is fed pieces: the whole records so far, and the first bytes of a record that is not whole yet.
-#[derive(Drop)]
+#[derive(Clone, Copy)]
 pub struct Judge {
     pub run: Run,
     pub held: [u8; 16],

@@ -13,7 +13,7 @@ use kernel_state::{Answer, State};
 use queue::Queue;
 
 // The state behind a command, its answer, and the queue behind it.
-#[derive(Drop)]
+#[derive(Clone, Copy)]
 pub struct Moved {
     pub next: State,
     pub answer: Answer,

@@ -5,7 +5,7 @@
 // The registers: the soonest task, 0 where nobody is delayed, with its time and its age. The table, by task number: the
 // times and ages of the others, 0 and 0 for a task that is not in it. An age is 1, and one more for each task that came
 // in later for the same time.
-#[derive(Drop)]
+#[derive(Clone, Copy)]
 pub struct Queue {
     pub task: u8,
     pub time: u64,

@@ -3,7 +3,7 @@
 #![tactic(auto)]
 
 // A dropped stretch: its first byte on the old tape, and how many bytes it has.
-#[derive(Drop)]
+#[derive(Clone, Copy)]
 pub struct Stretch {
     pub first: u64,
     pub size: u64,
@@ -11,7 +11,7 @@ pub struct Stretch {
 
 // A whole tape's salvage: code 0, or 16 where the buffers have no room for it; how many records are kept, how many
 // stretches dropped, and whether a header was kept.
-#[derive(Drop)]
+#[derive(Clone, Copy)]
 pub struct Salvaged {
     pub code: u8,
     pub records: usize,
@@ -21,7 +21,7 @@ pub struct Salvaged {
 
 // A salvage between two pieces of its tape: the place of the first byte that is not decided, where the open dropped
 // stretch begins (`place` where none is open), and whether a header was kept.
-#[derive(Drop)]
+#[derive(Clone, Copy)]
 pub struct Torn {
     pub place: u64,
     pub from: u64,
@@ -30,7 +30,7 @@ pub struct Torn {
 
 // What a piece came to: code 0, or 16 where the buffers have no room for it; the salvage behind it, how many bytes are
 // decided, how many of them are kept, and how many numbers are listed, two for each stretch that ended.
-#[derive(Drop)]
+#[derive(Clone, Copy)]
 pub struct Fed {
     pub code: u8,
     pub torn: Torn,

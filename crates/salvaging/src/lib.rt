@@ -20,7 +20,7 @@ const LAST_PLACE: u64 = 18446744073709551615;
 
 // What a pass over bytes comes to: how many are decided, where the open stretch begins, the bytes kept and the numbers
 // listed.
-#[derive(Drop)]
+#[derive(Clone, Copy)]
 struct Passed {
     done: usize,
     from: usize,

@@ -22,20 +22,20 @@ use text_print::{put_draw_header, put_draw_line};
 use text_split::{held_command, held_first_line, held_none, next_line};
 
 // A run that reads its input: with what is held of a line that has begun.
-#[derive(Drop)]
+#[derive(Clone, Copy)]
 pub struct Reader {
     pub run: DrawRun,
     pub held: Held,
 }
 
 // The reader behind a piece of input, and the run behind its end or some draws; and how many bytes were printed.
-#[derive(Drop)]
+#[derive(Clone, Copy)]
 pub struct Read {
     pub reader: Reader,
     pub at: usize,
 }
 
-#[derive(Drop)]
+#[derive(Clone, Copy)]
 pub struct Printed {
     pub run: DrawRun,
     pub at: usize,
@@ -162,7 +162,7 @@ const MANY: usize = 72057594037927936;
 
 // What stands behind the lines of a piece, beside the tables: the course, what is kept of a line that has begun, and
 // how many bytes were printed.
-#[derive(Drop)]
+#[derive(Clone, Copy)]
 struct Through {
     course: Course,
     kept: Held,
@@ -338,7 +338,7 @@ fn past(c: Course, n: u64, seed: u32) -> Course
 }
 
 // What stands behind some draws, beside the tables.
-#[derive(Drop)]
+#[derive(Clone, Copy)]
 struct Lot {
     course: Course,
     at: usize,

@@ -32,7 +32,7 @@ pub fn begin() -> Showing
 // ---- a line
 
 // What is told of a line: its row, the state and the queue behind it, and whether its answer shows an exception.
-#[derive(Drop)]
+#[derive(Clone, Copy)]
 struct Done {
     row: Row,
     state: State,

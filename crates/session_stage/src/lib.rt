@@ -21,7 +21,7 @@ pub const OVER: u8 = 3;
 
 // Where a run of the program draw stands: its stage; the state; how many lines were printed; the seed; the profile;
 // and how many draws are left.
-#[derive(Drop)]
+#[derive(Clone, Copy)]
 pub struct DrawRun {
     pub stage: u8,
     pub kernel: Kernel,
@@ -32,7 +32,7 @@ pub struct DrawRun {
 }
 
 // The same beside the state, which is in tables that are lent.
-#[derive(Drop)]
+#[derive(Clone, Copy)]
 pub struct Course {
     pub stage: u8,
     pub n: u64,
@@ -42,7 +42,7 @@ pub struct Course {
 }
 
 // The course behind a line, and the row that is printed for it, where it is shown.
-#[derive(Drop)]
+#[derive(Clone, Copy)]
 pub struct Note {
     pub course: Course,
     pub shown: bool,

@@ -32,7 +32,7 @@ pub fn header(out: &mut [u8]) -> usize
 
 // What stands behind a piece, beside the tables: what is kept of a line that has begun, how many lines there were,
 // and how many bytes were printed.
-#[derive(Drop)]
+#[derive(Clone, Copy)]
 struct Through {
     kept: Held,
     n: u64,

@@ -6,7 +6,7 @@ use kernel::Kernel;
 use text::Held;
 
 // Where a walk stands: the state, what is held of a line that has begun, and how many lines there were.
-#[derive(Drop)]
+#[derive(Clone, Copy)]
 pub struct Walk {
     pub kernel: Kernel,
     pub held: Held,
@@ -14,7 +14,7 @@ pub struct Walk {
 }
 
 // The walk behind a piece, and how many bytes were printed.
-#[derive(Drop)]
+#[derive(Clone, Copy)]
 pub struct Fed {
     pub walk: Walk,
     pub at: usize,

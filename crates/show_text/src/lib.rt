@@ -8,7 +8,7 @@ use text::Held;
 
 // Where a show stands: the state, the chip's queue beside it, what is held of a line that has begun, and how many lines
 // there were.
-#[derive(Drop)]
+#[derive(Clone, Copy)]
 pub struct Showing {
     pub state: State,
     pub queue: Queue,
@@ -17,7 +17,7 @@ pub struct Showing {
 }
 
 // The show behind a piece, and how many bytes were printed.
-#[derive(Drop)]
+#[derive(Clone, Copy)]
 pub struct Fed {
     pub showing: Showing,
     pub at: usize,

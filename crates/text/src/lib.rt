@@ -3,7 +3,7 @@
 #![tactic(auto)]
 
 // What a line says: code 0 and a command, or 14 and zeros.
-#[derive(Drop)]
+#[derive(Clone, Copy)]
 pub struct Spoken {
     pub code: u8,
     pub op: u8,
@@ -13,14 +13,14 @@ pub struct Spoken {
 }
 
 // Code 0 and the seed, or 17 and 0.
-#[derive(Drop)]
+#[derive(Clone, Copy)]
 pub struct SeedText {
     pub code: u8,
     pub seed: u32,
 }
 
 // The first line of draw: code 0 and its numbers, or 14, 17 or 18 and zeros.
-#[derive(Drop)]
+#[derive(Clone, Copy)]
 pub struct FirstLine {
     pub code: u8,
     pub seed: u32,
@@ -30,7 +30,7 @@ pub struct FirstLine {
 }
 
 // What follows the seed's word.
-#[derive(Drop)]
+#[derive(Clone, Copy)]
 pub struct Settings {
     pub valid: bool,
     pub span: u32,
@@ -39,14 +39,14 @@ pub struct Settings {
 }
 
 // The first bytes of a line: up to 128, or 129 of a line that is longer.
-#[derive(Drop)]
+#[derive(Clone, Copy)]
 pub struct Held {
     pub bytes: [u8; 129],
     pub count: usize,
 }
 
 // A whole line is held, or all that there was and more is needed; and the place behind it.
-#[derive(Drop)]
+#[derive(Clone, Copy)]
 pub struct Cut {
     pub whole: bool,
     pub held: Held,
@@ -54,7 +54,7 @@ pub struct Cut {
 }
 
 // What a reader of commands gets: a whole line's command, and nothing held; or more is needed.
-#[derive(Drop)]
+#[derive(Clone, Copy)]
 pub struct NextCommand {
     pub whole: bool,
     pub spoken: Spoken,
@@ -63,7 +63,7 @@ pub struct NextCommand {
 }
 
 // What a line shows. Walk leaves out a, b and value.
-#[derive(Drop)]
+#[derive(Clone, Copy)]
 pub struct Row {
     pub n: u64,
     pub op: u8,

@@ -14,7 +14,7 @@ use text::{FirstLine, SeedText, Settings};
 use text_word::{Operand, find, next_decimal, same_bytes};
 
 // Eight decimals: whether they have the form, what they are, and the place behind them.
-#[derive(Drop)]
+#[derive(Clone, Copy)]
 struct Eight {
     valid: bool,
     values: [u32; 8],
