@@ -120,9 +120,9 @@ pub record Fits (t : Torn) (buf : List ℕ) (n m : ℕ) : Type 0 where
   pub bytes : length (written t buf) ≤ n
   pub numbers : length (cells (listed t buf)) ≤ m
 
-pub fed_fits : (t : Torn) (buf : List ℕ) (n m : ℕ) → fed_fits t buf n m ≡ true → Fits t buf n m
+pub fits_so : (t : Torn) (buf : List ℕ) (n m : ℕ) → fed_fits t buf n m ≡ true → Fits t buf n m
 unfolding fed_fits
-fed_fits t buf n m e =
+fits_so t buf n m e =
     let a = both_true e in
     let b = both_true a.0 in
     record {
@@ -153,7 +153,7 @@ took t buf out list out' list' r f z = go (fed_fits t buf (length out) (length l
         × (out' ≡ cond {A = List ℕ} b (sets out 0 (written t buf)) out) × (list' ≡ cond {A = List ℕ} b (sets list 0 (cells (listed t buf))) list)
         → Took t buf out list r out' list'
     go true e (x, y, v) =
-        let k = fed_fits t buf (length out) (length list) e in
+        let k = fits_so t buf (length out) (length list) e in
         record {
           place = k.place;
           torn = ap (λ (q : Fed). q.torn) x;

@@ -1,6 +1,6 @@
 -- The words in which a salvage's promises are said (proofs/Theorems), beside those of Torn and Pieces. Assumes nothing.
 use Rattle.std.specs.Prelude.{ℕ, zero, suc, ◌+◌, ◌-◌, ◌*◌, ◌%◌, ◌≤◌, ◌<◌, ◌≡◌, List, [], ◌∷◌, ◌++◌, Bool, true, false, cond, ◌&&◌, ◌||◌, length, take, drop, get_or, replicate, eqb, leb, ltb}
-use Rattle.salvage_marks.specs.Torn.{makes, marks, found, dropped, headed, cells}
+use Rattle.salvage_marks.specs.Torn.{makes, marks, found, dropped, headed}
 use Rattle.salvage_marks.specs.Pieces.{last_place, decided, written, listed, after}
 use Rattle.salvage_marks.specs.declared.Stretch.{Stretch}
 use Rattle.salvage_marks.specs.declared.Salvaged.{Salvaged}
