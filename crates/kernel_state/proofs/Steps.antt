@@ -5,7 +5,7 @@ use mathlib.Core.Path.{◌≡◌, refl, sym, ap}
 use mathlib.Core.Bool.{Bool, true, false, ◌&&◌, and-false}
 use lib.Dec.{eqb, ltb}
 use borrow.Author.Tests.{eqb-true, eqb-false, lt-ltb}
-use Rattle.rules.specs.Machine.{Machine, Command, runner, running}
+use Rattle.rules.specs.Machine.{Machine, Command, runner}
 use Rattle.rules.specs.declared.Whose.{Whose}
 use Rattle.rules.specs.Kinds.{kind}
 use Rattle.rules.specs.Run.{accepts, released}
