@@ -211,27 +211,29 @@ def descriptors():
             hold(f'{program} to a file open for reading', run(program, given=given, stdout=only_read), b'', 3, told(OUTPUT, errno.EBADF))
         gone, left = os.pipe()
         os.close(gone)
-        hold(f'{program} to nobody, signal ignored', run(program, given=given, stdout=left, restore_signals=False), b'', 3, told(OUTPUT, errno.EPIPE))
-        hold(f'{program} to nobody', run(program, given=given, stdout=left), b'', -signal.SIGPIPE)
+        # whoever started it may have had the signal ignored; it is not ended by the signal either way
+        for ignored in (True, False):
+            hold(f'{program} to nobody', run(program, given=given, stdout=left, restore_signals=not ignored), b'', 3, told(OUTPUT, errno.EPIPE))
         os.close(left)
         # what cannot be said changes nothing else
         hold(f'{program} 2>&-', run(program, closed=[0, 2]), head, 3)
 
 
 def goes_away():
-    """A reader that goes away ends the program, though its input never ends."""
+    """A reader that goes away is a failed write and ends the program, though its input never ends."""
     global count
     count += 1
     endless = subprocess.Popen(['yes', 'wake'], stdout=subprocess.PIPE)
-    walk = subprocess.Popen([RUN, 'walk'], stdin=endless.stdout, stdout=subprocess.PIPE)
+    walk = subprocess.Popen([RUN, 'walk'], stdin=endless.stdout, stdout=subprocess.PIPE, stderr=subprocess.PIPE)
     endless.stdout.close()
     head = walk.stdout.readline()
     walk.stdout.close()
+    said = walk.stderr.read().decode()
     status = walk.wait(timeout=LIMIT)
     endless.kill()
     endless.wait()
-    if head != WALK_HEADER or status != -signal.SIGPIPE:
-        stop(f'walk whose reader goes away: {head!r}, status {status}')
+    if head != WALK_HEADER or status != 3 or said != told(OUTPUT, errno.EPIPE):
+        stop(f'walk whose reader goes away: {head!r}, status {status}, said {said!r}')
 
 
 def streams():
