@@ -10,27 +10,7 @@ use Rattle.kernel_line.specs.declared.TaskID.{TaskID}
 use Rattle.kernel_ready.specs.Ready.{runner_in}
 use Rattle.generator_draws.specs.Menu.{sift, objects}
 use Rattle.generator_menu.specs.Tables.{eligible_in, eligibles_in, seen_by, sight_in}
-use borrow.Author.Rules.{rules}
-use Rattle.generator_menu.proofs.look.Statement.{statement}
-use Rattle.generator_menu.proofs.look.Tie as tie
-
-runner-requires : tie.Need-runner-requires
-runner-requires c κs = search rules
-
-of-task-requires : tie.Need-of-task-requires
-of-task-requires c κs = search rules
-
-of-task-requires-2 : tie.Need-of-task-requires-2
-of-task-requires-2 c κs = search rules
-
-of-task-requires-3 : tie.Need-of-task-requires-3
-of-task-requires-3 c κs = search rules
-
-count-eligible-requires : tie.Need-count-eligible-requires
-count-eligible-requires c κs = search rules
-
-has-room-requires : tie.Need-has-room-requires
-has-room-requires c κs = search rules
+use Rattle.generator_menu.proofs.look.Goals as goal
 
 spelled : (base ready held way ceiling : List ℕ) (clock span : ℕ)
     → let r = runner_in ready in
@@ -47,23 +27,11 @@ looked : (base ready held way ceiling : List ℕ) (clock span runner level hand 
 looked base ready held way ceiling clock span runner level hand how count room e1 e2 e3 e4 e5 e6 =
     rw (e6, e5, e4, e3, e2, e1) (spelled base ready held way ceiling clock span)
 
-returns : tie.Need-returns
+pub returns : goal.returns
 returns c =
-    let t = c.before.before.before in
-    let r = t.before.before.before in
-    let a = r.before.args in
+    let t = c in
+    let r = t in
+    let a = r.args in
     looked a.base.now a.ready.now a.held.now a.way.now a.ceiling a.clock a.span _ _ _ _ _ _
-    (ap (λ (x : TaskID). x.0) r.runner.ensures) t.before.before.of-task.ensures t.before.of-task2.ensures t.of-task3.ensures
-    c.before.before.count-eligible.ensures c.has_room.ensures
-
-pub look_spec : {M : Type 1} → statement M
-look_spec =
-    tie.close
-    (tie.spec
-    runner-requires
-    of-task-requires
-    of-task-requires-2
-    of-task-requires-3
-    count-eligible-requires
-    has-room-requires
-    returns)
+    (ap (λ (x : TaskID). x.0) r.runner-runner.ensures) t.of_task-level.ensures t.of_task-hand.ensures t.of_task-how.ensures
+    c.count_eligible-count.ensures c.has_room.ensures
