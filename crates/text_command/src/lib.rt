@@ -134,6 +134,9 @@ fn take_unless(line: &[u8], at: usize, omits: bool, used: bool, most: u64) -> Op
     }
 }
 
+// The bytes that a command line may have, without its end.
+const LINE_MOST: usize = 64;
+
 // Code 14 and zeros.
 pub fn no_command() -> Spoken
     ensures { result ≡ no_command }
@@ -151,7 +154,7 @@ pub fn no_command() -> Spoken
 pub fn command(line: &[u8]) -> Spoken
     ensures { result ≡ command_of line.now }
 {
-    if 64 < line.len() {
+    if LINE_MOST < line.len() {
         return no_command();
     }
     let end = find(line, 0, 32);
