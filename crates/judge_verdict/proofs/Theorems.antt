@@ -213,9 +213,9 @@ all_more : (P : Record → Type 0) (rs : List Record) (r : Record) → All P rs 
 all_more P [] r a p = (p, tt)
 all_more P (q ∷ rs) r a p = (a.0, all_more P rs r a.1 p)
 
-command_fields : (at : ℕ) (r : Record) → at ≢ 0 → fault_of at r ≡ 0 → command_fields r ≡ true
+has_command_fields : (at : ℕ) (r : Record) → at ≢ 0 → fault_of at r ≡ 0 → command_fields r ≡ true
 unfolding fault_of
-command_fields at r n e = go (command_fields r) (rw (ne_eqb at 0 n) at e)
+has_command_fields at r n e = go (command_fields r) (rw (ne_eqb at 0 n) at e)
   where
     go : (t : Bool) → cond {A = ℕ} t 0 15 ≡ 0 → t ≡ true
     go true z = refl
@@ -245,7 +245,7 @@ module _ (s : List ℕ) (small : (i : ℕ) → get_or s i 0 < 256) where
 
       is_command : CommandRecord r
       is_command =
-          (command_fields (16 * suc (length rs)) r (λ z. omega arith) (accepted (length s) (16 * suc (length rs)) r there.taken).fields, there.value_fits)
+          (has_command_fields (16 * suc (length rs)) r (λ z. omega arith) (accepted (length s) (16 * suc (length rs)) r there.taken).fields, there.value_fits)
 
       split : rest ≡ bytes_of r ++ drop 16 rest
       split = sym (take-append-drop 16 rest) ∙ ap (λ (x : List ℕ). x ++ drop 16 rest) (sym (ap (λ (x : List ℕ). take 16 x) left) ∙ there.bytes)
@@ -346,9 +346,9 @@ module _ (s : List ℕ) (small : (i : ℕ) → get_or s i 0 < 256) where
 
 -- ---- and the header
 
-header_fields : (r : Record) → fault_of 0 r ≡ 0 → (header_fields r ≡ true) × (is_seed r.value ≡ true)
+has_header_fields : (r : Record) → fault_of 0 r ≡ 0 → (header_fields r ≡ true) × (is_seed r.value ≡ true)
 unfolding fault_of
-header_fields r e = go (header_fields r) (is_seed r.value) e
+has_header_fields r e = go (header_fields r) (is_seed r.value) e
   where
     go : (h v : Bool) → cond {A = ℕ} h (cond v 0 17) 15 ≡ 0 → (h ≡ true) × (v ≡ true)
     go true true z = (refl, refl)
@@ -376,7 +376,7 @@ header_begins : (s : List ℕ) (small : (i : ℕ) → get_or s i 0 < 256) (r : R
 unfolding answers
 header_begins s small r at e =
     let k = is_there s small 0 r at e in
-    let h = header_fields r (accepted (length s) 0 r k.taken).fields in
+    let h = has_header_fields r (accepted (length s) 0 r k.taken).fields in
     let k' = header_is r h.0 in
     record {
       edition = r.a;
