@@ -1,5 +1,5 @@
 -- Laws of the answers: which exit of `feed` and of `salvage` is which case of the definition. Assumes nothing.
-use Prim.Native.Nat.{ℕ, zero, ◌+◌, ◌-◌, ◌*◌, ◌/◌, ◌≤◌, ◌<◌}
+use Prim.Native.Nat.{ℕ, zero, ◌+◌, ◌*◌, ◌/◌, ◌≤◌, ◌<◌}
 use native.Mathlib.Omega.{arith}
 use mathlib.Core.Path.{◌≡◌, refl, sym, ap, ◌∙◌}
 use mathlib.Core.Bool.{Bool, true, false, ◌&&◌, ◌||◌}
@@ -11,7 +11,7 @@ use lib.Seq.{sets}
 use Rattle.salvage_marks.specs.declared.Torn.{Torn}
 use Rattle.salvage_marks.specs.declared.Fed.{Fed}
 use Rattle.salvage_marks.specs.declared.Salvaged.{Salvaged}
-use Rattle.salvage_marks.specs.Torn.{pick, closed, kept, dropped, found, headed, cells, fits, salvaged_of, SalvagedTo}
+use Rattle.salvage_marks.specs.Torn.{pick, closed, kept, dropped, found, cells, fits, salvaged_of, SalvagedTo}
 use Rattle.salvage_marks.specs.Pieces.{ended, last_place, opened, written, listed, after, fed_fits, fed_of, FedTo}
 use Rattle.salvage_marks.proofs.Marks.{and_false, cells_join, cells_long}
 use Rattle.salvage_marks.proofs.Whole.{kept_long}

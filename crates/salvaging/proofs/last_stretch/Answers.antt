@@ -2,12 +2,10 @@
 use Prim.Native.Nat.{ℕ, ◌+◌, ◌≤◌}
 use mathlib.Core.Bool.{Bool, true, false, cond}
 use native.Mathlib.Omega.{arith}
-use borrow.Author.Rules.{rules}
 use lib.Dec.{ltb}
 use Rattle.salvage_marks.specs.Pieces.{least, last_place, last_of}
 use Rattle.salvage_marks.proofs.Chained.{least_below}
-use Rattle.salvaging.proofs.last_stretch.Statement.{statement}
-use Rattle.salvaging.proofs.last_stretch.Tie as tie
+use Rattle.salvaging.proofs.last_stretch.Goals as goal
 
 least_above : (x y z : ℕ) → z ≤ x → z ≤ y → z ≤ least x y
 least_above x y z a b = go (ltb y x)
@@ -16,22 +14,13 @@ least_above x y z a b = go (ltb y x)
     go true = b
     go false = a
 
-least-requires : tie.Need-least-requires
-least-requires c κs = search rules
-
-reach-requires : tie.Need-reach-requires
-reach-requires c κs = search rules
-
-sub-t5 : tie.Need-overflow-sub-t5
-sub-t5 c =
-    let a = c.before.before.args in
+pub overflow_sub-result : goal.overflow_sub-result
+overflow_sub-result c =
+    let a = c.args in
     let p : a.t.place ≤ last_place = omega arith in
-    rw (c.before.least.ensures, c.reach.ensures)
+    rw (c.least-first.ensures, c.reach-end.ensures)
     (omega (arith, least_below a.t.from a.t.place, least_above (a.t.place + a.held) last_place a.t.place (omega arith) p))
 
-returns : tie.Need-returns
+pub returns : goal.returns
 unfolding last_of
-returns c = rw (c.before.least.ensures, c.reach.ensures)
-
-pub last_stretch_spec : {M : Type 1} → statement M
-last_stretch_spec = tie.close (tie.spec least-requires reach-requires sub-t5 returns)
+returns c = rw (c.least-first.ensures, c.reach-end.ensures)
