@@ -1,0 +1,21 @@
+-- What the check leaves of `put`.
+use borrow.Author.Rules.{rules}
+use native.Mathlib.Omega.{arith}
+use lib.ListN.{take, length-set}
+use Rattle.image_layout.proofs.Copying.{start, grow, end}
+use Rattle.image_layout.proofs.put.Goals as goal
+
+pub loop-i-init : goal.loop-i-init
+loop-i-init c = let a = c.args in (omega arith, search rules, start a.s.now a.v.now a.at)
+
+pub loop-i-preserved : goal.loop-i-preserved
+loop-i-preserved c =
+    let l = c.loop-i in
+    let a = c.args in
+    (omega arith, simp length-set l.invariant.1, grow l.s (take a.at a.s.now) a.v.now a.at l.i (omega arith) (omega arith) l.invariant.2)
+
+pub returns : goal.returns
+returns c =
+    let l = c.loop-i in
+    let a = c.args in
+    (l.invariant.1, end l.s (take a.at a.s.now) a.v.now a.at l.i a.n (omega arith) (omega arith) l.invariant.2)
