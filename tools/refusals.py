@@ -39,6 +39,7 @@ SHAPE = re.compile(
 
 
 def parts(name):
+    """The words of a name, in which a function stands with its module or without, and with a goal or without."""
     return set(re.findall(r'[^\s:./()]+', name))
 
 
