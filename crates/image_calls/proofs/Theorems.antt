@@ -33,7 +33,6 @@ use Rattle.kernel.proofs.Round as round
 use Rattle.kernel.proofs.Written.{stands}
 use Rattle.kernel.proofs.Written as tables
 use Rattle.kernel_state.specs.declared.State as whole
-use Rattle.kernel_state.specs.declared.Answer.{Answer}
 use Rattle.kernel_state.specs.Public.{encode, is_sound, answer_of, step_of}
 use Rattle.generator.specs.declared.Profile.{Profile}
 use Rattle.generator.specs.declared.Drawn.{Drawn}
@@ -396,13 +395,13 @@ even_way s seed p = go (is_image s) refl (eqb (evenly.drawn_of (kernel_of s) see
     small : (evenly.drawn_of (kernel_of s) seed p).code < 256
     small =
         let k = kernel_of s in
-        rw (evenly-shipped.code-in-order k seed p) (first_small (not (P.is_sound k)) (eqb seed 0) (not (good_profile (profile_of p))) (not k.started))
+        rw (evenly-shipped.code_in_order k seed p) (first_small (not (P.is_sound k)) (eqb seed 0) (not (good_profile (profile_of p))) (not k.started))
 
     go : (b : Bool) → is_image s ≡ b → (z : Bool) → eqb (evenly.drawn_of (kernel_of s) seed p).code 0 ≡ z → EvenWay s seed p
     go false i z e = refused 1 (λ n. omega (arith, n)) (omega arith) (rw i)
     go true i true e = made i (eqb-true _ 0 e) (rw i)
     go true i false e =
-        let n = eqb-false _ 0 e in refused (evenly.drawn_of (kernel_of s) seed p).code n small (rw i (evenly-shipped.refused-leaves (kernel_of s) seed p n))
+        let n = eqb-false _ 0 e in refused (evenly.drawn_of (kernel_of s) seed p).code n small (rw i (evenly-shipped.refused_leaves (kernel_of s) seed p n))
 
 pub left_alone_evenly : (s : List ℕ) (seed : ℕ) (p : Profile) → (draw_even_on s seed p).code ≢ 0 → (draw_even_on s seed p).seed ≡ seed
 left_alone_evenly s seed p n = go (even_way s seed p)
@@ -459,7 +458,7 @@ module _ (s : List ℕ) (seed span : ℕ) (weights : List ℕ) (value : ℕ) whe
       let small = bytes_evenly e in
       let u = unpacked_draw (bare found_evenly) (omega (arith, w.2)) small.0 small.1 in
       let accepted = same_code (state_of s) _ (image_sound s w.0)
-      ∙ evenly-shipped.drawn-accepted (kernel_of s) seed (told_profile span weights) (code_there e) in
+      ∙ evenly-shipped.drawn_accepted (kernel_of s) seed (told_profile span weights) (code_there e) in
       rw ((draw_even_apart e).0, u.1, u.2, u.3, eq-eqb found_evenly.code 0 w.2, w.0, w.1) (omega (arith, accepted))
 
   -- ## The draws spent are told truly: the seed left is the draw applied that often, 3 to 24 times
@@ -470,7 +469,7 @@ module _ (s : List ℕ) (seed span : ℕ) (weights : List ℕ) (value : ℕ) whe
   unfolding draw_even_seed
   draw_even_spent e =
       let q = (made_evenly e).1 in
-      let w = evenly-shipped.spent-truly (kernel_of s) seed (told_profile span weights) (code_there e) in
+      let w = evenly-shipped.spent_truly (kernel_of s) seed (told_profile span weights) (code_there e) in
       rw ((draw_even_apart e).1 ∙ ap (λ (d : counted.Drawn). d.spent) q) (ap (λ (d : counted.Drawn). d.seed) q ∙ w.0, w.1, w.2)
 
   -- ## A refused one changes nothing: its answer is the code alone, no draw spent, and the seed and the value are as they were

@@ -16,8 +16,8 @@ use Rattle.rules.specs.Run as R
 use Rattle.rules.proofs.Words.{All}
 use Rattle.rules.proofs.Sounds.{Sound, runner_known, known}
 use Rattle.rules.proofs.Step as Rules
-use Rattle.rules_exceptions.specs.Exceptions.{next, answer}
-use Rattle.rules_exceptions.proofs.Kept.{released_stands, next_sound}
+use Rattle.rules_exceptions.specs.Exceptions.{answer}
+use Rattle.rules_exceptions.proofs.Kept.{released_stands}
 use Rattle.kernel.specs.View as K
 use Rattle.kernel.proofs.Written.{stands}
 use Rattle.kernel_state.specs.declared.State.{State}
