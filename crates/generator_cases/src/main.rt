@@ -5,8 +5,7 @@
 
 use generator::{Drawn, Profile};
 use kernel::{Command, Kernel};
-
-const OUT: i32 = libc::STDOUT_FILENO;
+use std::io;
 
 fn stepped(k: Kernel, op: u8, a: u8, b: u8, value: u64) -> Kernel {
     let s = k.step(Command { op, a, b, value });
@@ -48,24 +47,23 @@ fn span(n: u64) -> u32 {
     }
 }
 
-fn number(x: u64) {
-    io::print_decimal(OUT, x);
-    io::write_all(OUT, b" ");
+fn number(rt: &impl Print, x: u64) -> io::Result<()> {
+    print!(rt; "{x} ")
 }
 
-fn show(d: Drawn) {
+fn show(rt: &impl Print, d: Drawn) -> io::Result<()> {
     let c = d.command;
-    number(d.code as u64);
-    number(c.op as u64);
-    number(c.a as u64);
-    number(c.b as u64);
-    number(c.value);
-    io::print_decimal(OUT, d.seed as u64);
-    io::write_all(OUT, b"\n");
+    number(rt, d.code as u64)?;
+    number(rt, c.op as u64)?;
+    number(rt, c.a as u64)?;
+    number(rt, c.b as u64)?;
+    number(rt, c.value)?;
+    let left = d.seed;
+    println!(rt; "{left}")
 }
 
 // Row i: the state is the highest digit of i, wake's weight the lowest.
-fn row(i: u64, early: Kernel, on: Kernel) {
+fn row(rt: &impl Print, i: u64, early: Kernel, on: Kernel) -> io::Result<()> {
     let seed = (i / 16 % 2) as u32;
     let p = Profile {
         span: span(i / 4 % 4),
@@ -80,21 +78,23 @@ fn row(i: u64, early: Kernel, on: Kernel) {
             10,
         ],
     };
-    number(i / 32);
-    number(seed as u64);
-    number(p.span as u64);
-    number(100 + i / 2 % 2);
-    number(i % 2);
-    show(generator::draw(state(i / 32, early, on), seed, p));
+    number(rt, i / 32)?;
+    number(rt, seed as u64)?;
+    number(rt, p.span as u64)?;
+    number(rt, 100 + i / 2 % 2)?;
+    number(rt, i % 2)?;
+    show(
+        rt,
+        generator::draw(state(i / 32, early, on), seed, p),
+    )
 }
 
-fn main() {
+fn main(rt: HostRuntime) -> io::Result<()> {
     let early = set_up();
     let on = stepped(early, 3, 0, 0, 0);
-    io::write_all(OUT, b"state seed span delay wake code op a b value left\n");
-    let mut i: u64 = 0;
-    while i < 256 {
-        row(i, early, on);
-        i += 1;
+    println!(rt; "state seed span delay wake code op a b value left")?;
+    for i in 0..256u64 {
+        row(&rt, i, early, on)?;
     }
+    Ok(())
 }

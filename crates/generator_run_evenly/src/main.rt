@@ -7,8 +7,7 @@
 use generator::Profile;
 use generator_evenly::Carried;
 use kernel::{Answer, Command, Kernel};
-
-const OUT: i32 = libc::STDOUT_FILENO;
+use std::io;
 
 // What is told of a run.
 #[derive(Drop)]
@@ -94,30 +93,30 @@ fn drawn(r: Course, x: Carried) -> Course {
     behind(at, d.command, x.answer)
 }
 
-fn number(x: u64) {
-    io::write_all(OUT, b" ");
-    io::print_decimal(OUT, x);
+fn number(rt: &impl Print, x: u64) -> io::Result<()> {
+    print!(rt; " {x}")
 }
 
-fn show(n: u64, clock: u64, r: Course) {
-    io::print_decimal(OUT, n);
-    number(r.running as u64);
-    number(clock);
-    number(r.seed as u64);
-    number(r.spent);
-    number(r.sum);
-    io::write_all(OUT, b"\n");
+fn show(rt: &impl Print, n: u64, clock: u64, r: Course) -> io::Result<()> {
+    print!(rt; "{n}")?;
+    number(rt, r.running as u64)?;
+    number(rt, clock)?;
+    number(rt, r.seed as u64)?;
+    number(rt, r.spent)?;
+    number(rt, r.sum)?;
+    println!(rt)
 }
 
 // A line for each 5,000 draws.
-fn show_some(n: u64, clock: u64, r: Course) {
+fn show_some(rt: &impl Print, n: u64, clock: u64, r: Course) -> io::Result<()> {
     if n % 5000 == 0 {
-        show(n, clock, r);
+        show(rt, n, clock, r)?;
     }
+    Ok(())
 }
 
 // The state's tables stand in locals, and each draw is carried out there.
-fn run(s: Setup, p: Profile) {
+fn run(rt: &impl Print, s: Setup, p: Profile) -> io::Result<()> {
     let k = s.k;
     let mut base = k.base;
     let mut ready = k.ready;
@@ -148,26 +147,27 @@ fn run(s: Setup, p: Profile) {
         );
         at = drawn(at, x);
         n += 1;
-        show_some(n, clock, at);
+        show_some(rt, n, clock, at)?;
     }
+    Ok(())
 }
 
 // The set-up and a run, from a seed.
-fn run_from(seed: u32, p: Profile) {
+fn run_from(rt: &impl Print, seed: u32, p: Profile) -> io::Result<()> {
     let s = begun(seed);
     let k = s.k;
-    show(0, k.clock, s.at);
-    run(s, p);
+    show(rt, 0, k.clock, s.at)?;
+    run(rt, s, p)
 }
 
-fn main() {
+fn main(rt: HostRuntime) -> io::Result<()> {
     let p = Profile {
         span: 1000000,
         weights: [10, 30, 20, 10, 10, 10, 20, 10],
     };
-    io::write_all(OUT, b"draws running clock seed spent sum\n");
-    run_from(1, p);
-    run_from(2147483649, p);
-    run_from(2159691842, p);
-    run_from(4294967295, p);
+    println!(rt; "draws running clock seed spent sum")?;
+    run_from(&rt, 1, p)?;
+    run_from(&rt, 2147483649, p)?;
+    run_from(&rt, 2159691842, p)?;
+    run_from(&rt, 4294967295, p)
 }

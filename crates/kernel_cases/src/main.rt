@@ -19,6 +19,8 @@
 use kernel::{Command, Kernel, TaskID};
 use kernel_state::State;
 use numbers::wide;
+use std::io;
+use std::io::Read;
 
 mod words;
 
@@ -62,7 +64,7 @@ const CLOCK: u64 = 0x636c6f636b;
 const PENDING: u64 = 0x70656e64696e67;
 
 // The machine at hand, the one that was kept or taken last, and those that are kept: N stands at N mod 4.
-#[derive(Drop)]
+#[derive(Clone, Copy)]
 struct Bench {
     hand: State,
     last: State,
@@ -81,11 +83,9 @@ fn same_times(a: [u64; 32], b: [u64; 32]) -> bool {
 }
 
 fn same_tables(j: Kernel, k: Kernel) -> bool {
-    let lines = check::same(&j.ready, &k.ready) & check::same(&j.delayed, &k.delayed);
-    let hands = check::same(&j.held, &k.held) & check::same(&j.way, &k.way);
-    let set_up = check::same(&j.base, &k.base)
-        & check::same(&j.ceiling, &k.ceiling)
-        & check::same(&j.waiter, &k.waiter);
+    let lines = (j.ready == k.ready) & (j.delayed == k.delayed);
+    let hands = (j.held == k.held) & (j.way == k.way);
+    let set_up = (j.base == k.base) & (j.ceiling == k.ceiling) & (j.waiter == k.waiter);
     let a = j.until;
     let b = k.until;
     lines & hands & set_up & same_times(a, b) & (j.clock == k.clock) & (j.started == k.started)
@@ -97,14 +97,12 @@ fn same(s: State, t: State) -> bool {
     same_tables(j, k) & (s.pending == t.pending)
 }
 
-fn shown(n: u64) {
-    io::print_decimal(libc::STDOUT_FILENO, n);
-    io::write_all(libc::STDOUT_FILENO, b" ");
+fn shown(rt: &impl Print, n: u64) -> io::Result<()> {
+    print!(rt; "{n} ")
 }
 
-fn shown_last(n: u64) {
-    io::print_decimal(libc::STDOUT_FILENO, n);
-    io::write_all(libc::STDOUT_FILENO, b"\n");
+fn shown_last(rt: &impl Print, n: u64) -> io::Result<()> {
+    println!(rt; "{n}")
 }
 
 fn command(w: Words) -> Command {
@@ -117,41 +115,41 @@ fn command(w: Words) -> Command {
 }
 
 // Code, running, released and the exception of a command, and the state after it.
-fn answered(k: State, c: Command) -> State {
+fn answered(rt: &impl Print, k: State, c: Command) -> io::Result<State> {
     let r = k.step(c);
-    shown(r.answer.code as u64);
-    shown(r.answer.running.0 as u64);
-    shown(r.answer.released.0 as u64);
-    shown(r.answer.exception as u64);
-    r.next
+    shown(rt, r.answer.code as u64)?;
+    shown(rt, r.answer.running.0 as u64)?;
+    shown(rt, r.answer.released.0 as u64)?;
+    shown(rt, r.answer.exception as u64)?;
+    Ok(r.next)
 }
 
-fn done(k: State, c: Command) -> State {
-    let next = answered(k, c);
-    shown(next.kernel.clock);
-    shown_last(same(k, next) as u64);
-    next
+fn done(rt: &impl Print, k: State, c: Command) -> io::Result<State> {
+    let next = answered(rt, k, c)?;
+    shown(rt, next.kernel.clock)?;
+    shown_last(rt, same(k, next) as u64)?;
+    Ok(next)
 }
 
-fn asked(k: State, task: u64) {
+fn asked(rt: &impl Print, k: State, task: u64) -> io::Result<()> {
     let left = k.wakes_left(TaskID((task % 256) as u8));
-    shown(left.code as u64);
-    shown_last(left.left as u64);
+    shown(rt, left.code as u64)?;
+    shown_last(rt, left.left as u64)
 }
 
-fn each(kept: [State; 4], c: Command) {
+fn each(rt: &impl Print, kept: [State; 4], c: Command) -> io::Result<()> {
     let first = kept[1];
     let second = kept[2];
     let third = kept[3];
     let fourth = kept[0];
-    answered(first, c);
-    answered(second, c);
-    answered(third, c);
+    answered(rt, first, c)?;
+    answered(rt, second, c)?;
+    answered(rt, third, c)?;
     let r = fourth.step(c);
-    shown(r.answer.code as u64);
-    shown(r.answer.running.0 as u64);
-    shown(r.answer.released.0 as u64);
-    shown_last(r.answer.exception as u64);
+    shown(rt, r.answer.code as u64)?;
+    shown(rt, r.answer.running.0 as u64)?;
+    shown(rt, r.answer.released.0 as u64)?;
+    shown_last(rt, r.answer.exception as u64)
 }
 
 fn prints(word: u64) -> bool {
@@ -159,9 +157,10 @@ fn prints(word: u64) -> bool {
 }
 
 // What is said of a state.
-fn said(k: State) {
-    shown(k.sound() as u64);
+fn said(rt: &impl Print, k: State) -> io::Result<()> {
+    shown(rt, k.sound() as u64)?;
     let next = answered(
+        rt,
         k,
         Command {
             op: 6,
@@ -169,16 +168,16 @@ fn said(k: State) {
             b: 0,
             value: 0,
         },
-    );
-    shown(same(k, next) as u64);
+    )?;
+    shown(rt, same(k, next) as u64)?;
     let r = k.step(Command {
         op: 0,
         a: 0,
         b: 0,
         value: 0,
     });
-    shown(r.answer.code as u64);
-    asked(k, 1);
+    shown(rt, r.answer.code as u64)?;
+    asked(rt, k, 1)
 }
 
 // A cell is set. (A place that a table does not have is one that it has.)
@@ -249,56 +248,56 @@ impl Bench {
         next
     }
 
-    fn spoilt(self, w: Words) -> Bench {
+    fn spoilt(self, rt: &impl Print, w: Words) -> io::Result<Bench> {
         let k = self.hand;
-        said(put(k, w.a, w.b, w.c));
+        said(rt, put(k, w.a, w.b, w.c))?;
         let last = self.last;
-        self.with(last)
+        Ok(self.with(last))
     }
 
     // A line of the table is carried out.
-    fn told(self, w: Words) -> Bench {
+    fn told(self, rt: &impl Print, w: Words) -> io::Result<Bench> {
         if prints(w.word) {
-            shown(w.line);
+            shown(rt, w.line)?;
         }
-        self.carried(w)
+        self.carried(rt, w)
     }
 
-    fn carried(self, w: Words) -> Bench {
+    fn carried(self, rt: &impl Print, w: Words) -> io::Result<Bench> {
         let k = self.hand;
         let kept = self.kept;
         let word = w.word;
         match word {
-            FRESH => self.with(State::fresh()),
-            DO => self.with(done(k, command(w))),
-            PUT => self.with(put(k, w.a, w.b, w.c)),
-            KEEP => self.kept(w.a),
-            TAKE => self.taken(w.a),
-            SPOIL => self.spoilt(w),
+            FRESH => Ok(self.with(State::fresh())),
+            DO => Ok(self.with(done(rt, k, command(w))?)),
+            PUT => Ok(self.with(put(k, w.a, w.b, w.c))),
+            KEEP => Ok(self.kept(w.a)),
+            TAKE => Ok(self.taken(w.a)),
+            SPOIL => self.spoilt(rt, w),
             ASK => {
-                asked(k, w.a);
-                self
+                asked(rt, k, w.a)?;
+                Ok(self)
             }
             EACH => {
-                each(kept, command(w));
-                self
+                each(rt, kept, command(w))?;
+                Ok(self)
             }
-            _ => self,
+            _ => Ok(self),
         }
     }
 }
 
 // A byte of the input, or 256 at its end.
-fn byte() -> u64 {
+fn byte(input: &mut impl Read) -> u64 {
     let mut one = [0u8; 1];
-    let got = libc::read(libc::STDIN_FILENO, &mut one);
-    if got != 1 {
-        return 256;
+    match input.read(&mut one) {
+        Ok(1) => wide(one[0]),
+        _ => 256,
     }
-    wide(one[0])
 }
 
-fn main() {
+fn main(rt: HostRuntime) -> io::Result<()> {
+    let mut input = rt.stdin();
     let k = State::fresh();
     let mut bench = Bench {
         hand: k,
@@ -308,17 +307,18 @@ fn main() {
     let mut w = Words::none(1);
     // Nothing says that the input ends, so the loop counts down from a number that no run uses up.
     let mut turns = u64::MAX;
-    let mut next = byte();
+    let mut next = byte(&mut input);
     while turns > 0 && next < 256 {
         if next == 10 {
-            bench = bench.told(w.parted());
+            bench = bench.told(&rt, w.parted())?;
             w = w.next_line();
         } else if next == 32 {
             w = w.parted();
         } else {
             w = w.longer(next);
         }
-        next = byte();
+        next = byte(&mut input);
         turns -= 1;
     }
+    Ok(())
 }

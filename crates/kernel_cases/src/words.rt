@@ -1,6 +1,6 @@
 // A line of the table: its first five words, each as one number. A word of digits is its decimal; any other is its
 // bytes, the last one least.
-#[derive(Drop)]
+#[derive(Clone, Copy)]
 pub(crate) struct Words {
     // the number of the line, the first is 1
     pub line: u64,
@@ -29,7 +29,7 @@ impl Words {
     }
 
     pub(crate) fn next_line(self) -> Words {
-        Words::none(std::num::wrapping_add_u64(self.line, 1))
+        Words::none(self.line.wrapping_add(1))
     }
 
     // With a byte more of the word that is being read.

@@ -8,8 +8,7 @@
 use generator::{Carried, Profile};
 use kernel::{Answer, Command, Kernel, TaskID};
 use queue::Queue;
-
-const OUT: i32 = libc::STDOUT_FILENO;
+use std::io;
 
 const DELAY: u8 = 4;
 
@@ -278,57 +277,57 @@ fn questioned(n: u64, b: Beside) -> Beside {
 
 // ---- what is printed
 
-fn number(x: u64) {
-    io::write_all(OUT, b" ");
-    io::print_decimal(OUT, x);
+fn number(rt: &impl Print, x: u64) -> io::Result<()> {
+    print!(rt; " {x}")
 }
 
-fn show(n: u64, b: Beside) {
+fn show(rt: &impl Print, n: u64, b: Beside) -> io::Result<()> {
     let k = b.k;
     let q = b.q;
     let r = b.at;
-    io::print_decimal(OUT, n);
-    number(r.running as u64);
-    number(k.clock);
-    number(r.seed as u64);
-    number(q.task as u64);
-    number(q.time);
-    number(q.age as u64);
-    number(sleeping(k) as u64);
-    number(r.sum);
-    io::write_all(OUT, b"\n");
+    print!(rt; "{n}")?;
+    number(rt, r.running as u64)?;
+    number(rt, k.clock)?;
+    number(rt, r.seed as u64)?;
+    number(rt, q.task as u64)?;
+    number(rt, q.time)?;
+    number(rt, q.age as u64)?;
+    number(rt, sleeping(k) as u64)?;
+    number(rt, r.sum)?;
+    println!(rt)
 }
 
 // A line for each 10,000 draws.
-fn show_some(n: u64, b: Beside) {
+fn show_some(rt: &impl Print, n: u64, b: Beside) -> io::Result<()> {
     if n % 10000 == 0 {
-        show(n, b);
+        show(rt, n, b)?;
     }
+    Ok(())
 }
 
-fn show_counts(r: Course) {
-    io::write_all(OUT, b"empty, full, tied, oldest, differing:");
-    number(r.empty);
-    number(r.full);
-    number(r.tied);
-    number(r.oldest as u64);
-    number(r.differing);
-    io::write_all(OUT, b"\n");
+fn show_counts(rt: &impl Print, r: Course) -> io::Result<()> {
+    print!(rt; "empty, full, tied, oldest, differing:")?;
+    number(rt, r.empty)?;
+    number(rt, r.full)?;
+    number(rt, r.tied)?;
+    number(rt, r.oldest as u64)?;
+    number(rt, r.differing)?;
+    println!(rt)
 }
 
-fn run(seed: u32, p: Profile) {
+fn run(rt: &impl Print, seed: u32, p: Profile) -> io::Result<()> {
     let mut b = begun(seed);
     let mut n: u64 = 0;
-    show(n, b);
+    show(rt, n, b)?;
     while n < 100000 {
         n += 1;
         b = questioned(n, stepped(b, p));
-        show_some(n, b);
+        show_some(rt, n, b)?;
     }
-    show_counts(b.at);
+    show_counts(rt, b.at)
 }
 
-fn main() {
+fn main(rt: HostRuntime) -> io::Result<()> {
     let filling = Profile {
         span: 3,
         weights: [100, 20, 5, 4, 30, 30, 1, 30],
@@ -337,7 +336,7 @@ fn main() {
         span: 9,
         weights: [60, 50, 12, 6, 20, 20, 1, 20],
     };
-    io::write_all(OUT, b"draws running clock seed task time age delayed sum\n");
-    run(1, filling);
-    run(4294967295, swaying);
+    println!(rt; "draws running clock seed task time age delayed sum")?;
+    run(&rt, 1, filling)?;
+    run(&rt, 4294967295, swaying)
 }

@@ -7,37 +7,37 @@ ghost use Rattle.std.specs.Prelude.{◌≤◌, ◌<◌};
 
 use salvage_print::{put_last, put_list};
 use salvaging::{Torn, at_first, feed, last_stretch, salvage};
+use std::fs::File;
+use std::io;
+use std::io::Read;
+use std::rt::Files;
 
 // What a salvage has put: how many bytes at the front of one buffer, how many numbers at the front of another; and
 // whether it kept a header.
-#[derive(Drop)]
+#[derive(Clone, Copy)]
 struct Got {
     kept: usize,
     cells: usize,
     headed: bool,
 }
 
-fn text(s: &[u8]) {
-    io::write_all(libc::STDOUT_FILENO, s);
-}
-
 // The first n bytes.
-fn front(s: &[u8], n: usize) {
+fn front(rt: &impl Print, s: &[u8], n: usize) -> io::Result<()> {
     if n <= s.len() {
-        text(&s[..n]);
+        rt.write_all(&s[..n])?;
     }
+    Ok(())
 }
 
 // 16 bytes to a line.
-fn hex(p: &[u8]) {
-    let mut i: usize = 0;
-    while i < p.len() {
-        io::print_hex(libc::STDOUT_FILENO, numbers::wide(p[i]), 2);
+fn hex(rt: &impl Print, p: &[u8]) -> io::Result<()> {
+    for (i, b) in p.iter().enumerate() {
+        print!(rt; "{b:02x}")?;
         if i % 16 == 15 {
-            text(b"\n");
+            println!(rt)?;
         }
-        i += 1;
     }
+    Ok(())
 }
 
 // The smaller of a + b and most.
@@ -127,7 +127,7 @@ fn same_bytes(a: &[u8], b: &[u8], n: usize) -> bool {
     if b.len() < n {
         return false;
     }
-    check::same(&a[..n], &b[..n])
+    a[..n] == b[..n]
 }
 
 fn same_numbers(a: &[u64], b: &[u64], n: usize) -> bool {
@@ -148,7 +148,7 @@ fn same_numbers(a: &[u64], b: &[u64], n: usize) -> bool {
 }
 
 fn same_in_pieces(tape: &[u8], size: usize, out: &[u8], list: &[u64], g: Got) -> bool {
-    let mut bytes = io::buffer();
+    let mut bytes = [0u8; 4096];
     let mut numbers = [0u64; 1024];
     let p = in_pieces(tape, size, &mut bytes, &mut numbers);
     if (p.kept != g.kept) | (p.cells != g.cells) | (p.headed != g.headed) {
@@ -157,64 +157,65 @@ fn same_in_pieces(tape: &[u8], size: usize, out: &[u8], list: &[u64], g: Got) ->
     same_bytes(&bytes, out, g.kept) & same_numbers(&numbers, list, g.cells)
 }
 
-fn show(tape: &[u8], out: &[u8], list: &[u64], g: Got) {
+fn show(rt: &impl Print, tape: &[u8], out: &[u8], list: &[u64], g: Got) -> io::Result<()> {
     let mut lines = [0u8; 35840];
     let cells = g.cells;
     let kept = g.kept;
     if list.len() < cells {
-        return;
+        return Ok(());
     }
     if out.len() < kept {
-        return;
+        return Ok(());
     }
     if tape.len() < kept {
-        return;
+        return Ok(());
     }
     let n = put_list(&mut lines, &list[..cells]);
-    front(&lines, n);
+    front(rt, &lines, n)?;
     let m = put_last(
         &mut lines,
         (kept >> 4) as u64,
         (tape.len() - kept) as u64,
         g.headed,
     );
-    front(&lines, m);
-    hex(&out[..kept]);
+    front(rt, &lines, m)?;
+    hex(rt, &out[..kept])
 }
 
-fn one_tape(tape: &[u8]) {
-    let mut out = io::buffer();
+fn one_tape(rt: &impl Print, tape: &[u8]) -> io::Result<()> {
+    let mut out = [0u8; 4096];
     let mut list = [0u64; 1024];
     let g = whole(tape, &mut out, &mut list);
-    show(tape, &out, &list, g);
+    show(rt, tape, &out, &list, g)?;
     let mut same = same_in_pieces(tape, 1, &out, &list, g);
     same = same & same_in_pieces(tape, 7, &out, &list, g);
     same = same & same_in_pieces(tape, 16, &out, &list, g);
     same = same & same_in_pieces(tape, 100, &out, &list, g);
     if !same {
-        text(b"pieces differ\n");
+        println!(rt; "pieces differ")?;
+    }
+    Ok(())
+}
+
+fn one_file(rt: &(impl Files + Print + Alloc), i: u8) -> io::Result<bool> {
+    let name = format!(in rt.alloc(); "{i:02}")?;
+    match File::open(rt, name.as_str()) {
+        Ok(mut file) => {
+            println!(rt; "case {name}")?;
+            let mut data = Vec::new(rt.alloc());
+            file.read_to_end(&mut data)?;
+            one_tape(rt, data.as_slice())?;
+            Ok(true)
+        }
+        Err(_) => Ok(false),
     }
 }
 
-fn one_file(i: u8) -> bool {
-    let name = [48 + i / 10 % 10, 48 + i % 10];
-    let fd = os::open_read(&name);
-    if fd < 0 {
-        return false;
+fn main(rt: HostRuntime) -> io::Result<()> {
+    for i in 0..100u8 {
+        if !one_file(&rt, i)? {
+            break;
+        }
     }
-    text(b"case ");
-    text(&name);
-    text(b"\n");
-    let mut data = io::buffer();
-    let n = io::read_full(fd, &mut data);
-    one_tape(&data[..n]);
-    libc::close(fd);
-    true
-}
-
-fn main() {
-    let mut i: u8 = 0;
-    while i < 100 && one_file(i) {
-        i += 1;
-    }
+    Ok(())
 }

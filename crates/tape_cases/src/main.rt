@@ -3,33 +3,35 @@
 // this program must write.
 #![tactic(auto)]
 
-ghost use Rattle.std.specs.Prelude.{◌-◌, ◌≤◌, ◌<◌, length};
+ghost use Rattle.std.specs.Prelude.{◌-◌, ◌≤◌, ◌<◌, IfOk, length};
 
-use numbers::wide;
+use std::fs::File;
+use std::io;
+use std::io::Read as _;
+use std::rt::Files;
 use tape::{Read, Record};
 
 // Bytes before a case's tape: kind, length, six fields, value, place.
 const HEAD: usize = 24;
 
-fn text(s: &[u8]) {
-    io::write_all(libc::STDOUT_FILENO, s);
+fn text(rt: &impl Print, s: &str) -> io::Result<()> {
+    rt.print(s)
 }
 
-fn decimal(n: u64) {
-    io::print_decimal(libc::STDOUT_FILENO, n);
+fn decimal(rt: &impl Print, n: u64) -> io::Result<()> {
+    rt.print(n)
 }
 
-fn field(n: u8) {
-    text(b" ");
-    decimal(n as u64);
+fn field(rt: &impl Print, n: u8) -> io::Result<()> {
+    text(rt, " ")?;
+    decimal(rt, n as u64)
 }
 
-fn hex(p: &[u8]) {
-    let mut i: usize = 0;
-    while i < p.len() {
-        io::print_hex(libc::STDOUT_FILENO, wide(p[i]), 2);
-        i += 1;
+fn hex(rt: &impl Print, p: &[u8]) -> io::Result<()> {
+    for b in p {
+        print!(rt; "{b:02x}")?;
     }
+    Ok(())
 }
 
 fn byte(d: &[u8], i: usize) -> u8 {
@@ -47,134 +49,142 @@ fn number(d: &[u8]) -> u64 {
     x
 }
 
-fn show_record(r: Record) {
-    field(r.op);
-    field(r.a);
-    field(r.b);
-    field(r.code);
-    field(r.running);
-    field(r.released);
-    text(b" ");
-    decimal(r.value);
+fn show_record(rt: &impl Print, r: Record) -> io::Result<()> {
+    field(rt, r.op)?;
+    field(rt, r.a)?;
+    field(rt, r.b)?;
+    field(rt, r.code)?;
+    field(rt, r.running)?;
+    field(rt, r.released)?;
+    text(rt, " ")?;
+    decimal(rt, r.value)
 }
 
-fn show(read: Read) {
+fn show(rt: &impl Print, read: Read) -> io::Result<()> {
     match read {
         Read::Found(r, _) => {
-            text(b"record");
-            show_record(r)
+            text(rt, "record")?;
+            show_record(rt, r)
         }
-        Read::End => text(b"end"),
+        Read::End => text(rt, "end"),
         Read::Refused(c) => {
-            text(b"refused");
-            field(c)
+            text(rt, "refused")?;
+            field(rt, c)
         }
     }
 }
 
 // Writes what a reader answers at a place: place, answer, number, part, next place. Answers the next place.
-fn answer(tape: &[u8], at: usize) -> usize {
-    decimal(at as u64);
-    text(b": ");
-    show(tape::read_at(tape, at));
-    text(b", code");
-    field(tape::code_at(tape, at));
-    text(b", part ");
-    hex(tape::part_at(tape, at));
-    text(b", next ");
+fn answer(rt: &impl Print, tape: &[u8], at: usize) -> io::Result<usize> {
+    decimal(rt, at as u64)?;
+    text(rt, ": ")?;
+    show(rt, tape::read_at(tape, at))?;
+    text(rt, ", code")?;
+    field(rt, tape::code_at(tape, at))?;
+    text(rt, ", part ")?;
+    hex(rt, tape::part_at(tape, at))?;
+    text(rt, ", next ")?;
     let next = tape::next_at(tape, at);
-    decimal(next as u64);
-    text(b"\n");
-    next
+    decimal(rt, next as u64)?;
+    text(rt, "\n")?;
+    Ok(next)
 }
 
 // What a reader hands back at a place, from the part and its code alone.
-fn show_part(part: &[u8], code: u8) {
+fn show_part(rt: &impl Print, part: &[u8], code: u8) -> io::Result<()> {
     if code != 0 {
-        show(Read::Refused(code));
-        return;
+        return show(rt, Read::Refused(code));
     }
     if part.len() == 0 {
-        show(Read::End);
-        return;
+        return show(rt, Read::End);
     }
-    text(b"record");
-    show_record(tape::record_of(part));
+    text(rt, "record")?;
+    show_record(rt, tape::record_of(part))
 }
 
 // Writes what a reader has answered: its place, its part and the code, its next place. Answers how many turns are left:
 // none where the place was kept.
-fn told(at: usize, part: &[u8], code: u8, next: usize, left: u32) -> u32
-    ensures { result ≤ left - 1 }
+fn told(
+    rt: &impl Print,
+    at: usize,
+    part: &[u8],
+    code: u8,
+    next: usize,
+    left: u32,
+) -> io::Result<u32>
+    ensures { IfOk result (λ n. n ≤ left - 1) }
 {
-    decimal(at as u64);
-    text(b": ");
-    show_part(part, code);
-    text(b", code");
-    field(code);
-    text(b", part ");
-    hex(part);
-    text(b", next ");
-    decimal(next as u64);
-    text(b"\n");
+    decimal(rt, at as u64)?;
+    text(rt, ": ")?;
+    show_part(rt, part, code)?;
+    text(rt, ", code")?;
+    field(rt, code)?;
+    text(rt, ", part ")?;
+    hex(rt, part)?;
+    text(rt, ", next ")?;
+    decimal(rt, next as u64)?;
+    text(rt, "\n")?;
     if next == at {
-        return 0;
+        return Ok(0);
     }
-    if left == 0 { 0 } else { left - 1 }
+    Ok(if left == 0 { 0 } else { left - 1 })
 }
 
 // A whole tape by one reader, from its opening until its place is kept.
-fn tape_case(tape: &[u8]) {
+fn tape_case(rt: &impl Print, tape: &[u8]) -> io::Result<()> {
     let mut r = tape_reader::open(tape);
     let mut left: u32 = 101;
     while 0 < left {
         let at = r.at;
         let p = tape_reader::next(&mut r);
-        left = told(at, p.bytes, p.code, r.at, left);
+        left = told(rt, at, p.bytes, p.code, r.at, left)?;
     }
+    Ok(())
 }
 
 // A record into a buffer: the code, the buffer after it, and what a reader then answers there.
-fn write_into(out: &mut [u8], at: usize, r: Record) {
+fn write_into(rt: &impl Print, out: &mut [u8], at: usize, r: Record) -> io::Result<()> {
     let c = tape::write_at(out, at, r);
-    text(b"write");
-    show_record(r);
-    text(b", code");
-    field(c);
-    text(b", buffer ");
-    hex(out);
-    text(b"\n");
-    answer(out, at);
+    text(rt, "write")?;
+    show_record(rt, r)?;
+    text(rt, ", code")?;
+    field(rt, c)?;
+    text(rt, ", buffer ")?;
+    hex(rt, out)?;
+    text(rt, "\n")?;
+    answer(rt, out, at)?;
+    Ok(())
 }
 
 // The buffer holds bytes 170 before.
-fn write_case(n: usize, at: usize, r: Record) {
+fn write_case(rt: &impl Print, n: usize, at: usize, r: Record) -> io::Result<()> {
     let mut space = [170u8; 64];
     if n <= 64 {
-        write_into(&mut space[..n], at, r);
+        write_into(rt, &mut space[..n], at, r)?;
     }
+    Ok(())
 }
 
 // One case. Answers how many bytes it took: all where they are too few for a case.
-fn one_case(d: &[u8]) -> usize
+fn one_case(rt: &impl Print, d: &[u8]) -> io::Result<usize>
     requires { 0 < length d.now }
-    ensures { (0 < result) × (result ≤ length d.now) }
+    ensures { IfOk result (λ n. (0 < n) × (n ≤ length d.now)) }
 {
     let n = byte(d, 1) as usize;
     let end = HEAD + n;
     if d.len() < end {
-        return d.len();
+        return Ok(d.len());
     }
     let at = number(&d[16..24]) as usize;
     let kind = byte(d, 0);
     match kind {
-        b'T' => tape_case(&d[HEAD..end]),
+        b'T' => tape_case(rt, &d[HEAD..end])?,
         b'R' => {
-            answer(&d[HEAD..end], at);
+            answer(rt, &d[HEAD..end], at)?;
         }
-        _ => write_case(n, at, record(d)),
+        _ => write_case(rt, n, at, record(d))?,
     }
-    end
+    Ok(end)
 }
 
 fn record(d: &[u8]) -> Record {
@@ -196,32 +206,33 @@ fn value(d: &[u8]) -> u64 {
     number(&d[8..16])
 }
 
-fn all(cases: &[u8]) {
+fn all(rt: &impl Print, cases: &[u8]) -> io::Result<()> {
     let mut at: usize = 0;
     while at < cases.len() {
-        at += one_case(&cases[at..]);
+        at += one_case(rt, &cases[at..])?;
+    }
+    Ok(())
+}
+
+fn one_file(rt: &(impl Files + Print + Alloc), i: u8) -> io::Result<bool> {
+    let name = format!(in rt.alloc(); "{i:02}")?;
+    match File::open(rt, name.as_str()) {
+        Ok(mut file) => {
+            println!(rt; "file {name}")?;
+            let mut data = Vec::new(rt.alloc());
+            file.read_to_end(&mut data)?;
+            all(rt, data.as_slice())?;
+            Ok(true)
+        }
+        Err(_) => Ok(false),
     }
 }
 
-fn one_file(i: u8) -> bool {
-    let name = [48 + i / 10 % 10, 48 + i % 10];
-    let fd = os::open_read(&name);
-    if fd < 0 {
-        return false;
+fn main(rt: HostRuntime) -> io::Result<()> {
+    for i in 0..100u8 {
+        if !one_file(&rt, i)? {
+            break;
+        }
     }
-    text(b"file ");
-    text(&name);
-    text(b"\n");
-    let mut data = io::large_buffer();
-    let n = io::read_full(fd, &mut data);
-    all(&data[..n]);
-    libc::close(fd);
-    true
-}
-
-fn main() {
-    let mut i: u8 = 0;
-    while i < 100 && one_file(i) {
-        i += 1;
-    }
+    Ok(())
 }
