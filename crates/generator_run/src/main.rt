@@ -7,7 +7,7 @@ use kernel::{Answer, Command, Kernel};
 use std::io;
 
 // What is told of a run.
-#[derive(Drop)]
+#[derive(Clone, Copy)]
 struct Course {
     seed: u32,
     running: u8,
@@ -15,7 +15,7 @@ struct Course {
 }
 
 // A run that is being set up, with its state.
-#[derive(Drop)]
+#[derive(Clone, Copy)]
 struct Setup {
     k: Kernel,
     at: Course,

@@ -10,7 +10,7 @@ use kernel::{Answer, Command, Kernel};
 use std::io;
 
 // What is told of a run.
-#[derive(Drop)]
+#[derive(Clone, Copy)]
 struct Course {
     seed: u32,
     running: u8,
@@ -19,7 +19,7 @@ struct Course {
 }
 
 // A run that is being set up, with its state.
-#[derive(Drop)]
+#[derive(Clone, Copy)]
 struct Setup {
     k: Kernel,
     at: Course,

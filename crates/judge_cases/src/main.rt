@@ -2,26 +2,26 @@
 // tools/judge_cases.py makes the tapes, and the second program what this must write.
 #![tactic(auto)]
 
-fn one_tape(i: u8) -> bool {
-    let hundreds = 48 + i / 100;
-    let tens = 48 + i / 10 % 10;
-    let ones = 48 + i % 10;
-    let name = [hundreds, tens, ones, b'.', b't', b'a', b'p', b'e'];
-    let fd = os::open_read(&name);
-    if fd < 0 {
-        return false;
+use std::fs::File;
+use std::io;
+
+fn one_tape(rt: &HostRuntime, i: u8) -> io::Result<bool> {
+    let name = format!(in rt.alloc(); "{i:03}.tape")?;
+    match File::open(rt, name.as_str()) {
+        Ok(mut file) => {
+            println!(rt; "file {name}")?;
+            programs_judge::run(&mut file, &mut rt.stdout(), &rt.stderr());
+            Ok(true)
+        }
+        Err(_) => Ok(false),
     }
-    io::write_all(libc::STDOUT_FILENO, b"file ");
-    io::write_all(libc::STDOUT_FILENO, &name);
-    io::write_all(libc::STDOUT_FILENO, b"\n");
-    programs_judge::run(fd);
-    libc::close(fd);
-    true
 }
 
-fn main() {
-    let mut i: u8 = 0;
-    while i < 200 && one_tape(i) {
-        i += 1;
+fn main(rt: HostRuntime) -> io::Result<()> {
+    for i in 0..200u8 {
+        if !one_tape(&rt, i)? {
+            break;
+        }
     }
+    Ok(())
 }

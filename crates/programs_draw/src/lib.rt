@@ -15,9 +15,10 @@ use programs_flow::{Went, brought, goes_on, going, has_failed, read_piece, statu
 use programs_hint::hinted;
 use session_draw::{Printed, Read, Reader, begin, draw_some, feed, finish, header};
 use session_stage::{DRAWING, DrawRun, FIRST_LINE, OVER};
+use std::io::{Print, Read, Write};
 
 // The draw behind what was read, how the work stands, and whether a hint was given.
-#[derive(Drop)]
+#[derive(Clone, Copy)]
 struct Turn {
     reader: Reader,
     went: Went,
@@ -69,12 +70,21 @@ fn put_draws(d: DrawRun, out: &mut [u8]) -> Printed
 }
 
 // One read, what is printed for it, one write.
-fn one_piece(fd: i32, r: Reader, was: Went, given: bool, piece: &mut [u8], out: &mut [u8]) -> Turn
+fn one_piece<R: Read, W: Write, E: Print>(
+    from: &mut R,
+    output: &mut W,
+    errors: &E,
+    r: Reader,
+    was: Went,
+    given: bool,
+    piece: &mut [u8],
+    out: &mut [u8],
+) -> Turn
     requires { (length piece.old ≤ draw_piece) × (draw_lent ≡ length out.old) }
     ensures { loops.Turned draws.piece_behind draws.piece_text r result.reader was result.went piece.new
         out.new }
 {
-    let came = read_piece(was, fd, piece);
+    let came = read_piece(was, from, errors, piece);
     if !goes_on(came) {
         return Turn {
             reader: r,
@@ -83,10 +93,10 @@ fn one_piece(fd: i32, r: Reader, was: Went, given: bool, piece: &mut [u8], out: 
         };
     }
     let n = brought(came);
-    let given = hinted(given, &piece[..n]);
+    let given = hinted(errors, given, &piece[..n]);
     let f = put_lines(r, &piece[..n], out);
     let at = f.at;
-    let wrote = write_whole(came, &out[..at]);
+    let wrote = write_whole(came, output, errors, &out[..at]);
     let reader = f.reader;
     Turn {
         reader,
@@ -96,7 +106,14 @@ fn one_piece(fd: i32, r: Reader, was: Went, given: bool, piece: &mut [u8], out: 
 }
 
 // Nothing says that the input ends, so the turns are counted.
-fn all_pieces(fd: i32, headed: Went, piece: &mut [u8], out: &mut [u8]) -> Turn
+fn all_pieces<R: Read, W: Write, E: Print>(
+    from: &mut R,
+    output: &mut W,
+    errors: &E,
+    headed: Went,
+    piece: &mut [u8],
+    out: &mut [u8],
+) -> Turn
     requires { (length piece.old ≤ draw_piece) × (draw_lent ≡ length out.old) }
     ensures { loops.Looped draws.piece_behind draws.piece_text draw_wants draws.at_first result.reader
         headed result.went }
@@ -106,7 +123,7 @@ fn all_pieces(fd: i32, headed: Went, piece: &mut [u8], out: &mut [u8]) -> Turn
     let mut went = headed;
     let mut given = false;
     while turns < u64::MAX && goes_on(went) && reads(reader) {
-        let t = one_piece(fd, reader, went, given, piece, out);
+        let t = one_piece(from, output, errors, reader, went, given, piece, out);
         reader = t.reader;
         went = t.went;
         given = t.given;
@@ -120,7 +137,13 @@ fn all_pieces(fd: i32, headed: Went, piece: &mut [u8], out: &mut [u8]) -> Turn
 }
 
 // The draws that are left, a lot to a write. Where a read or a write has failed there are none.
-fn all_draws(d: DrawRun, ended: Went, out: &mut [u8]) -> Went
+fn all_draws<W: Write, E: Print>(
+    output: &mut W,
+    errors: &E,
+    d: DrawRun,
+    ended: Went,
+    out: &mut [u8],
+) -> Went
     requires { draw_lent ≡ length out.old }
     ensures { loops.Concluded (draws.some_text d.left d) ended result }
 {
@@ -129,14 +152,20 @@ fn all_draws(d: DrawRun, ended: Went, out: &mut [u8]) -> Went
     while !has_failed(went) && run.stage == DRAWING && 0 < run.left {
         let f = put_draws(run, out);
         let at = f.at;
-        went = write_whole(went, &out[..at]);
+        went = write_whole(went, output, errors, &out[..at]);
         run = f.run;
     }
     went
 }
 
 // The end of the input, and the draws. Where a read or a write has failed there are none.
-fn conclude(r: Reader, read: Went, out: &mut [u8]) -> Went
+fn conclude<W: Write, E: Print>(
+    output: &mut W,
+    errors: &E,
+    r: Reader,
+    read: Went,
+    out: &mut [u8],
+) -> Went
     requires { draw_lent ≡ length out.old }
     ensures { loops.Concluded (draws.printed r []) read result }
 {
@@ -145,16 +174,16 @@ fn conclude(r: Reader, read: Went, out: &mut [u8]) -> Went
     }
     let f = put_end(r, out);
     let at = f.at;
-    let ended = write_whole(read, &out[..at]);
+    let ended = write_whole(read, output, errors, &out[..at]);
     let d = f.run;
     if d.stage == OVER {
-        hint_zeros();
+        hint_zeros(errors);
     }
-    all_draws(d, ended, out)
+    all_draws(output, errors, d, ended, out)
 }
 
 // The header, the pieces, the end and the draws.
-fn work(fd: i32) -> Went
+fn work<R: Read, W: Write, E: Print>(from: &mut R, output: &mut W, errors: &E) -> Went
     ensures { loops.Whole draws.piece_behind draw_wants draws.at_first (λ ps. draw_header ++ draws.printed
         draws.at_first ps) result }
 {
@@ -162,16 +191,16 @@ fn work(fd: i32) -> Went
     let mut out = [0u8; 73920];
     let head = put_header(&mut out);
     let begun = going();
-    let headed = write_whole(begun, &out[..head]);
-    let t = all_pieces(fd, headed, &mut piece, &mut out);
+    let headed = write_whole(begun, output, errors, &out[..head]);
+    let t = all_pieces(from, output, errors, headed, &mut piece, &mut out);
     let r = t.reader;
     let read = t.went;
-    conclude(r, read, &mut out)
+    conclude(output, errors, r, read, &mut out)
 }
 
 // It answers its status. What it reads and writes no contract can say; what it writes of the bytes read is session's.
-pub fn run(fd: i32) -> u8
+pub fn run<R: Read, W: Write, E: Print>(from: &mut R, output: &mut W, errors: &E) -> u8
     ensures { loops.DoneOrFailed result }
 {
-    status(work(fd))
+    status(work(from, output, errors))
 }

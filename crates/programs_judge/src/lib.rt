@@ -12,26 +12,33 @@ ghost use Rattle.programs_judge.specs.Judged.{silent, judge_wants, Judged, Judge
 use judging::{Judge, Judgement};
 use programs_flow::{Went, brought, goes_on, going, has_failed, read_piece, status, write_whole};
 use report::put_report;
+use std::io::{Print, Read, Write};
 
 // The judge of what was read, and how the work stands.
-#[derive(Drop)]
+#[derive(Clone, Copy)]
 struct Turn {
     judge: Judge,
     went: Went,
 }
 
 // The judgement of all that was read, and how the work stands behind its report.
-#[derive(Drop)]
+#[derive(Clone, Copy)]
 struct Done {
     judgement: Judgement,
     went: Went,
 }
 
 // One read, and its records judged.
-fn one_piece(fd: i32, j: Judge, was: Went, piece: &mut [u8]) -> Turn
+fn one_piece<R: Read, E: Print>(
+    from: &mut R,
+    errors: &E,
+    j: Judge,
+    was: Went,
+    piece: &mut [u8],
+) -> Turn
     ensures { loops.Turned fed silent j result.judge was result.went piece.new [] }
 {
-    let went = read_piece(was, fd, piece);
+    let went = read_piece(was, from, errors, piece);
     if !goes_on(went) {
         return Turn { judge: j, went };
     }
@@ -41,14 +48,14 @@ fn one_piece(fd: i32, j: Judge, was: Went, piece: &mut [u8]) -> Turn
 }
 
 // Behind a verdict nothing more is read. Nothing says that the input ends, so the turns are counted.
-fn all_pieces(fd: i32, piece: &mut [u8]) -> Turn
+fn all_pieces<R: Read, E: Print>(from: &mut R, errors: &E, piece: &mut [u8]) -> Turn
     ensures { loops.Looped fed silent judge_wants at_first result.judge nothing_yet result.went }
 {
     let mut turns = 0u64;
     let mut judge = Judge::fresh();
     let mut went = going();
     while turns < u64::MAX && goes_on(went) && judge.goes_on() {
-        let t = one_piece(fd, judge, went, piece);
+        let t = one_piece(from, errors, judge, went, piece);
         judge = t.judge;
         went = t.went;
         turns += 1;
@@ -65,7 +72,7 @@ fn put_judgement(j: Judgement, out: &mut [u8]) -> usize
 }
 
 // The report. Where a read failed the tape is not known, and nothing is said of it.
-fn conclude(j: Judgement, read: Went) -> Went
+fn conclude<W: Write, E: Print>(output: &mut W, errors: &E, j: Judgement, read: Went) -> Went
     ensures { loops.Concluded (report_text j) read result }
 {
     if has_failed(read) {
@@ -73,28 +80,28 @@ fn conclude(j: Judgement, read: Went) -> Went
     }
     let mut out = [0u8; 512];
     let n = put_judgement(j, &mut out);
-    write_whole(read, &out[..n])
+    write_whole(read, output, errors, &out[..n])
 }
 
 // The pieces, the report.
-fn work(fd: i32) -> Done
+fn work<R: Read, W: Write, E: Print>(from: &mut R, output: &mut W, errors: &E) -> Done
     ensures { Judged result.judgement result.went }
 {
     let mut piece = [0u8; 65536];
-    let t = all_pieces(fd, &mut piece);
+    let t = all_pieces(from, errors, &mut piece);
     let judge = t.judge;
     let read = t.went;
     let judgement = judge.end();
-    let went = conclude(judgement, read);
+    let went = conclude(output, errors, judgement, read);
     Done { judgement, went }
 }
 
 // It answers its status: the verdict's, or 3 where a read or a write failed. What it reads and writes no contract can
 // say; what it writes of the bytes read is judging's and report's.
-pub fn run(fd: i32) -> u8
+pub fn run<R: Read, W: Write, E: Print>(from: &mut R, output: &mut W, errors: &E) -> u8
     ensures { JudgedOrFailed result }
 {
-    let w = work(fd);
+    let w = work(from, output, errors);
     let went = w.went;
     if has_failed(went) {
         return status(went);

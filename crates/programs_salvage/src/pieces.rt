@@ -15,16 +15,18 @@ use programs_flow::{
 };
 use salvage_print::{put_last, put_list};
 use salvaging::{Fed, Torn, at_first, feed, last_stretch, move_down};
+use std::fs::File;
+use std::io::{Error, ErrorKind, IsTerminal, Print, Write};
 
 // How a turn ends: where the salvage stands, and how the work does.
-#[derive(Drop)]
+#[derive(Clone, Copy)]
 struct Turn {
     stand: Stand,
     went: Went,
 }
 
 // What a piece came to, and how the work stands behind what was written of it.
-#[derive(Drop)]
+#[derive(Clone, Copy)]
 struct Handed {
     fed: Fed,
     went: Went,
@@ -46,23 +48,34 @@ fn put_counts(text: &mut [u8], records: u64, dropped: u64, headed: bool) -> usiz
 }
 
 // Kept bytes to the new tape, and the lines of a list to standard output.
-fn hand_over(was: Went, to: i32, part: &[u8], kept: &[u8], cells: &[u64], text: &mut [u8]) -> Went
+fn hand_over<W: Write, E: Print>(
+    was: Went,
+    to: &mut File,
+    output: &mut W,
+    errors: &E,
+    part: &[u8],
+    kept: &[u8],
+    cells: &[u64],
+    text: &mut [u8],
+) -> Went
     requires { (was.kind ≡ 0) × (list_room cells.now ≤ length text.old) }
     ensures { turn.Handed kept.now (list_text cells.now) was result text.new }
 {
     let n = put_dropped(text, cells);
-    let went = write_to(was, to, part, kept);
+    let went = write_to(was, to, errors, part, kept);
     if has_failed(went) {
         return went;
     }
-    write_whole(went, &text[..n])
+    write_whole(went, output, errors, &text[..n])
 }
 
 // The held bytes and a piece are fed; what is kept of them is written, and what was dropped is listed.
-fn carry(
+fn carry<W: Write, E: Print>(
     t: Torn,
     was: Went,
-    to: i32,
+    to: &mut File,
+    output: &mut W,
+    errors: &E,
     part: &[u8],
     bytes: &[u8],
     out: &mut [u8],
@@ -79,22 +92,40 @@ fn carry(
     }
     let kept = fed.kept;
     let cells = fed.cells;
-    let went = hand_over(was, to, part, &out[..kept], &list[..cells], text);
+    let went = hand_over(
+        was,
+        to,
+        output,
+        errors,
+        part,
+        &out[..kept],
+        &list[..cells],
+        text,
+    );
     Handed { fed, went }
 }
 
 // One read behind the held bytes.
-fn take_in(was: Went, from: i32, old: &[u8], held: usize, buf: &mut [u8]) -> Went
+fn take_in<E: Print>(
+    was: Went,
+    from: &mut File,
+    errors: &E,
+    old: &[u8],
+    held: usize,
+    buf: &mut [u8],
+) -> Went
     requires { held ≤ length buf.old }
     ensures { Came was result (drop held buf.new)
         × (take held buf.new ≡ take held buf.old) }
 {
-    read_from(was, from, old, &mut buf[held..])
+    read_from(was, from, errors, old, &mut buf[held..])
 }
 
 // One turn: a piece is read and carried on, and what is held of it goes to the buffer's front.
-fn one_piece(
-    files: Files,
+fn one_piece<W: Write, E: Print>(
+    files: &mut Files,
+    output: &mut W,
+    errors: &E,
     old: &[u8],
     part: &[u8],
     s: Stand,
@@ -110,7 +141,7 @@ fn one_piece(
         × turn.Sane result.stand }
 {
     let held = s.held;
-    let came = take_in(was, files.old, old, held, buf);
+    let came = take_in(was, &mut files.old, errors, old, held, buf);
     if !goes_on(came) {
         return Turn {
             stand: s,
@@ -118,10 +149,22 @@ fn one_piece(
         };
     }
     let all = held + brought(came);
-    let c = carry(s.torn, came, files.part, part, &buf[..all], out, list, text);
+    let c = carry(
+        s.torn,
+        came,
+        &mut files.part,
+        output,
+        errors,
+        part,
+        &buf[..all],
+        out,
+        list,
+        text,
+    );
     let fed = c.fed;
     if fed.code != 0 {
-        let went = not_read(came, old, b" is too long");
+        let why = Error::from(ErrorKind::FileTooLarge);
+        let went = not_read(came, errors, why, old, b" is too long");
         return Turn { stand: s, went };
     }
     let left = move_down(buf, fed.done, all);
@@ -140,15 +183,15 @@ fn one_piece(
 const STEP: u64 = 100000000;
 
 // Where so many bytes were read, a line on standard error, if that is a terminal; and how many are wanted for the next.
-fn progress(wanted: u64, read: u64) -> u64 {
+fn progress<E: Print + IsTerminal>(errors: &E, wanted: u64, read: u64) -> u64 {
     if read < wanted {
         return wanted;
     }
-    if libc::isatty(libc::STDERR_FILENO) == 1 {
+    if errors.is_terminal() {
         let mut line = [0u8; 64];
         let n = put_decimal(&mut line, 0, wanted);
-        io::write_all(libc::STDERR_FILENO, &line[..n]);
-        io::write_all(libc::STDERR_FILENO, b" bytes read\n");
+        let _ = errors.write_all(&line[..n]);
+        let _ = errors.write_all(b" bytes read\n");
     }
     if u64::MAX - STEP < wanted {
         return wanted;
@@ -157,8 +200,10 @@ fn progress(wanted: u64, read: u64) -> u64 {
 }
 
 // Nothing says that the input ends, so the turns are counted.
-fn all_pieces(
-    files: Files,
+fn all_pieces<W: Write, E: Print + IsTerminal>(
+    files: &mut Files,
+    output: &mut W,
+    errors: &E,
     old: &[u8],
     part: &[u8],
     buf: &mut [u8],
@@ -180,17 +225,25 @@ fn all_pieces(
     };
     let mut went = going();
     while turns < u64::MAX && goes_on(went) {
-        let t = one_piece(files, old, part, stand, went, buf, out, list, text);
+        let t = one_piece(
+            files, output, errors, old, part, stand, went, buf, out, list, text,
+        );
         stand = t.stand;
         went = t.went;
-        wanted = progress(wanted, stand.torn.place);
+        wanted = progress(errors, wanted, stand.torn.place);
         turns += 1;
     }
     Turn { stand, went }
 }
 
 // The last stretch's line; where there is no such stretch, none.
-fn write_stretch(s: Stand, w: Went, text: &mut [u8]) -> Went
+fn write_stretch<W: Write, E: Print>(
+    output: &mut W,
+    errors: &E,
+    s: Stand,
+    w: Went,
+    text: &mut [u8],
+) -> Went
     requires { 70 ≤ length text.old }
     ensures { Took (length (list_text (numbers_of (last_of s.torn s.held)))) w.kind w result }
 {
@@ -199,10 +252,16 @@ fn write_stretch(s: Stand, w: Went, text: &mut [u8]) -> Went
         return w;
     }
     let n = put_dropped(text, &[x.first, x.size]);
-    write_whole(w, &text[..n])
+    write_whole(w, output, errors, &text[..n])
 }
 
-fn write_last(s: Stand, w: Went, text: &mut [u8]) -> Went
+fn write_last<W: Write, E: Print>(
+    output: &mut W,
+    errors: &E,
+    s: Stand,
+    w: Went,
+    text: &mut [u8],
+) -> Went
     requires { turn.Sane s × (last_room ≤ length text.old) }
     ensures { Concluded (last_line s.torn s.held s.kept) w result }
 {
@@ -212,31 +271,45 @@ fn write_last(s: Stand, w: Went, text: &mut [u8]) -> Went
     let torn = s.torn;
     let dropped = torn.place + s.held as u64 - s.kept;
     let n = put_counts(text, s.kept >> 4, dropped, torn.headed);
-    write_whole(w, &text[..n])
+    write_whole(w, output, errors, &text[..n])
 }
 
 // What is printed behind the last piece. Where something failed the tape is not known, and nothing is said of it.
-fn conclude(s: Stand, read: Went, text: &mut [u8]) -> Went
+fn conclude<W: Write, E: Print>(
+    output: &mut W,
+    errors: &E,
+    s: Stand,
+    read: Went,
+    text: &mut [u8],
+) -> Went
     requires { turn.Sane s × (last_room ≤ length text.old) }
     ensures { Concluded (end_of s.torn s.held s.kept) read result }
 {
     if has_failed(read) {
         return read;
     }
-    let listed = write_stretch(s, read, text);
-    write_last(s, listed, text)
+    let listed = write_stretch(output, errors, s, read, text);
+    write_last(output, errors, s, listed, text)
 }
 
 // The whole tape: its kept records are written and what is dropped is listed, or something failed.
-pub fn over(files: Files, old: &[u8], part: &[u8]) -> Went
+pub fn over<W: Write, E: Print + IsTerminal>(
+    files: &mut Files,
+    output: &mut W,
+    errors: &E,
+    old: &[u8],
+    part: &[u8],
+) -> Went
     ensures { Salvaged result }
 {
     let mut buf = [0u8; 8192];
     let mut out = [0u8; 8192];
     let mut list = [0u64; 1024];
     let mut text = [0u8; 35840];
-    let t = all_pieces(files, old, part, &mut buf, &mut out, &mut list, &mut text);
+    let t = all_pieces(
+        files, output, errors, old, part, &mut buf, &mut out, &mut list, &mut text,
+    );
     let stand = t.stand;
     let read = t.went;
-    conclude(stand, read, &mut text)
+    conclude(output, errors, stand, read, &mut text)
 }

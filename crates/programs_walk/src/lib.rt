@@ -11,9 +11,10 @@ ghost use Rattle.session_walk_text.specs.Sizes.{walk_piece, walk_lent};
 use programs_flow::{Went, brought, goes_on, going, has_failed, read_piece, status, write_whole};
 use programs_hint::hinted;
 use session_walk::{Fed, Walk, begin, feed, finish, header};
+use std::io::{Print, Read, Write};
 
 // The walk behind what was read, how the work stands, and whether a hint was given.
-#[derive(Drop)]
+#[derive(Clone, Copy)]
 struct Turn {
     walk: Walk,
     went: Went,
@@ -46,11 +47,20 @@ fn put_last(w: Walk, out: &mut [u8]) -> usize
 }
 
 // One read, what is printed for it, one write.
-fn one_piece(fd: i32, w: Walk, was: Went, given: bool, piece: &mut [u8], out: &mut [u8]) -> Turn
+fn one_piece<R: Read, W: Write, E: Print>(
+    from: &mut R,
+    output: &mut W,
+    errors: &E,
+    w: Walk,
+    was: Went,
+    given: bool,
+    piece: &mut [u8],
+    out: &mut [u8],
+) -> Turn
     requires { (length piece.old ≤ walk_piece) × (walk_lent ≡ length out.old) }
     ensures { loops.Turned walk_after text_for w result.walk was result.went piece.new out.new }
 {
-    let came = read_piece(was, fd, piece);
+    let came = read_piece(was, from, errors, piece);
     if !goes_on(came) {
         return Turn {
             walk: w,
@@ -59,10 +69,10 @@ fn one_piece(fd: i32, w: Walk, was: Went, given: bool, piece: &mut [u8], out: &m
         };
     }
     let n = brought(came);
-    let given = hinted(given, &piece[..n]);
+    let given = hinted(errors, given, &piece[..n]);
     let f = put_lines(w, &piece[..n], out);
     let at = f.at;
-    let wrote = write_whole(came, &out[..at]);
+    let wrote = write_whole(came, output, errors, &out[..at]);
     let walk = f.walk;
     Turn {
         walk,
@@ -72,7 +82,14 @@ fn one_piece(fd: i32, w: Walk, was: Went, given: bool, piece: &mut [u8], out: &m
 }
 
 // Nothing says that the input ends, so the turns are counted.
-fn all_pieces(fd: i32, headed: Went, piece: &mut [u8], out: &mut [u8]) -> Turn
+fn all_pieces<R: Read, W: Write, E: Print>(
+    from: &mut R,
+    output: &mut W,
+    errors: &E,
+    headed: Went,
+    piece: &mut [u8],
+    out: &mut [u8],
+) -> Turn
     requires { (length piece.old ≤ walk_piece) × (walk_lent ≡ length out.old) }
     ensures { loops.Looped walk_after text_for (λ w. true) at_first result.walk headed result.went }
 {
@@ -81,7 +98,7 @@ fn all_pieces(fd: i32, headed: Went, piece: &mut [u8], out: &mut [u8]) -> Turn
     let mut went = headed;
     let mut given = false;
     while turns < u64::MAX && goes_on(went) {
-        let t = one_piece(fd, walk, went, given, piece, out);
+        let t = one_piece(from, output, errors, walk, went, given, piece, out);
         walk = t.walk;
         went = t.went;
         given = t.given;
@@ -91,7 +108,13 @@ fn all_pieces(fd: i32, headed: Went, piece: &mut [u8], out: &mut [u8]) -> Turn
 }
 
 // The end of the input: a last line. Where a read or a write has failed there is none.
-fn conclude(w: Walk, read: Went, out: &mut [u8]) -> Went
+fn conclude<W: Write, E: Print>(
+    output: &mut W,
+    errors: &E,
+    w: Walk,
+    read: Went,
+    out: &mut [u8],
+) -> Went
     requires { walk_lent ≡ length out.old }
     ensures { loops.Concluded (last_text w) read result }
 {
@@ -99,27 +122,27 @@ fn conclude(w: Walk, read: Went, out: &mut [u8]) -> Went
         return read;
     }
     let last = put_last(w, out);
-    write_whole(read, &out[..last])
+    write_whole(read, output, errors, &out[..last])
 }
 
 // The header, the pieces, the end.
-fn work(fd: i32) -> Went
+fn work<R: Read, W: Write, E: Print>(from: &mut R, output: &mut W, errors: &E) -> Went
     ensures { loops.Whole walk_after (λ w. true) at_first (λ ps. walk_header ++ printed at_first ps) result }
 {
     let mut piece = [0u8; 640];
     let mut out = [0u8; 82048];
     let head = put_header(&mut out);
     let begun = going();
-    let headed = write_whole(begun, &out[..head]);
-    let t = all_pieces(fd, headed, &mut piece, &mut out);
+    let headed = write_whole(begun, output, errors, &out[..head]);
+    let t = all_pieces(from, output, errors, headed, &mut piece, &mut out);
     let w = t.walk;
     let read = t.went;
-    conclude(w, read, &mut out)
+    conclude(output, errors, w, read, &mut out)
 }
 
 // It answers its status. What it reads and writes no contract can say; what it writes of the bytes read is session's.
-pub fn run(fd: i32) -> u8
+pub fn run<R: Read, W: Write, E: Print>(from: &mut R, output: &mut W, errors: &E) -> u8
     ensures { loops.DoneOrFailed result }
 {
-    status(work(fd))
+    status(work(from, output, errors))
 }

@@ -16,7 +16,7 @@ const WAKE: u8 = 5;
 
 // What is told of a run, and what is counted: commands that left nobody delayed, and all; insertions for a time that
 // was there; the greatest age in the registers; and where the queue did not answer as the line does.
-#[derive(Drop)]
+#[derive(Clone, Copy)]
 struct Course {
     seed: u32,
     running: u8,
@@ -29,7 +29,7 @@ struct Course {
 }
 
 // A run: the kernel, and the queue beside it.
-#[derive(Drop)]
+#[derive(Clone, Copy)]
 struct Beside {
     k: Kernel,
     q: Queue,
@@ -37,7 +37,7 @@ struct Beside {
 }
 
 // The state behind a draw with its step, and what was drawn and answered.
-#[derive(Drop)]
+#[derive(Clone, Copy)]
 struct Moved {
     next: Kernel,
     x: Carried,

@@ -2,48 +2,52 @@
 // neither. tools/session_cases.py makes the inputs, and the second program what this must write.
 #![tactic(auto)]
 
-fn opened(name: &[u8]) -> i32 {
-    let fd = os::open_read(name);
-    if fd < 0 {
-        return fd;
+use std::fs::File;
+use std::io;
+
+fn opened(rt: &HostRuntime, name: &str) -> io::Result<Option<File>> {
+    match File::open(rt, name) {
+        Ok(file) => {
+            println!(rt; "file {name}")?;
+            Ok(Some(file))
+        }
+        Err(_) => Ok(None),
     }
-    io::write_all(libc::STDOUT_FILENO, b"file ");
-    io::write_all(libc::STDOUT_FILENO, name);
-    io::write_all(libc::STDOUT_FILENO, b"\n");
-    fd
 }
 
-fn one_walk(tens: u8, ones: u8) -> bool {
-    let fd = opened(&[tens, ones, b'.', b'w', b'a', b'l', b'k']);
-    if fd < 0 {
-        return false;
+fn one_walk(rt: &HostRuntime, i: u8) -> io::Result<bool> {
+    let name = format!(in rt.alloc(); "{i:02}.walk")?;
+    match opened(rt, name.as_str())? {
+        Some(mut file) => {
+            programs_walk::run(&mut file, &mut rt.stdout(), &rt.stderr());
+            Ok(true)
+        }
+        None => Ok(false),
     }
-    programs_walk::run(fd);
-    libc::close(fd);
-    true
 }
 
-fn one_draw(tens: u8, ones: u8) -> bool {
-    let fd = opened(&[tens, ones, b'.', b'd', b'r', b'a', b'w']);
-    if fd < 0 {
-        return false;
+fn one_draw(rt: &HostRuntime, i: u8) -> io::Result<bool> {
+    let name = format!(in rt.alloc(); "{i:02}.draw")?;
+    match opened(rt, name.as_str())? {
+        Some(mut file) => {
+            programs_draw::run(&mut file, &mut rt.stdout(), &rt.stderr());
+            Ok(true)
+        }
+        None => Ok(false),
     }
-    programs_draw::run(fd);
-    libc::close(fd);
-    true
 }
 
-fn one_number(i: u8) -> bool {
-    let tens = 48 + i / 10 % 10;
-    let ones = 48 + i % 10;
-    let walked = one_walk(tens, ones);
-    let drawn = one_draw(tens, ones);
-    walked | drawn
+fn one_number(rt: &HostRuntime, i: u8) -> io::Result<bool> {
+    let walked = one_walk(rt, i)?;
+    let drawn = one_draw(rt, i)?;
+    Ok(walked | drawn)
 }
 
-fn main() {
-    let mut i: u8 = 0;
-    while i < 100 && one_number(i) {
-        i += 1;
+fn main(rt: HostRuntime) -> io::Result<()> {
+    for i in 0..100u8 {
+        if !one_number(&rt, i)? {
+            break;
+        }
     }
+    Ok(())
 }

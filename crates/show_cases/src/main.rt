@@ -2,31 +2,33 @@
 // 1000. tools/show_cases.py makes the inputs, and the second program what this must write.
 #![tactic(auto)]
 
-fn show(name: &[u8], only: u64) {
-    let fd = os::open_read(name);
-    if fd < 0 {
-        return;
+use std::fs::File;
+use std::io;
+
+fn show(rt: &HostRuntime, name: &str, only: u64) -> io::Result<()> {
+    match File::open(rt, name) {
+        Ok(mut file) => {
+            println!(rt; "file {name}")?;
+            programs_show::run(&mut file, &mut rt.stdout(), &rt.stderr(), only);
+            Ok(())
+        }
+        Err(_) => Ok(()),
     }
-    io::write_all(libc::STDOUT_FILENO, b"file ");
-    io::write_all(libc::STDOUT_FILENO, name);
-    io::write_all(libc::STDOUT_FILENO, b"\n");
-    programs_show::run(fd, only);
-    libc::close(fd);
 }
 
-fn one_number(i: u8) {
-    let tens = 48 + i / 10 % 10;
-    let ones = 48 + i % 10;
-    show(&[tens, ones, b'.', b's', b'h', b'o', b'w'], 0);
-    show(&[tens, ones, b'.', b'l', b'i', b'n', b'e'], i as u64);
-    show(&[tens, ones, b'.', b'f', b'a', b'r'], i as u64 * 100);
+fn one_number(rt: &HostRuntime, i: u8) -> io::Result<()> {
+    let all = format!(in rt.alloc(); "{i:02}.show")?;
+    let line = format!(in rt.alloc(); "{i:02}.line")?;
+    let far = format!(in rt.alloc(); "{i:02}.far")?;
+    show(rt, all.as_str(), 0)?;
+    show(rt, line.as_str(), i as u64)?;
+    show(rt, far.as_str(), i as u64 * 100)
 }
 
 // Not every number has each of the three.
-fn main() {
-    let mut i: u8 = 0;
-    while i < 100 {
-        one_number(i);
-        i += 1;
+fn main(rt: HostRuntime) -> io::Result<()> {
+    for i in 0..100u8 {
+        one_number(&rt, i)?;
     }
+    Ok(())
 }

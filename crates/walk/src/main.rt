@@ -1,6 +1,6 @@
 // The program walk, over standard input.
 #![tactic(auto)]
 
-fn main() {
-    programs_walk::run(libc::STDIN_FILENO);
+fn main(rt: HostRuntime) {
+    programs_walk::run(&mut rt.stdin(), &mut rt.stdout(), &rt.stderr());
 }
