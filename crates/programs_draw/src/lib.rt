@@ -13,7 +13,7 @@ mod hint;
 use crate::hint::hint_zeros;
 use programs_flow::{Went, brought, goes_on, going, has_failed, read_piece, status, write_whole};
 use programs_hint::hinted;
-use session_draw::{Printed, Read, Reader, begin, draw_some, feed, finish, header};
+use session_draw::{Printed, Reader, begin, draw_some, feed, finish, header};
 use session_stage::{DRAWING, DrawRun, FIRST_LINE, OVER};
 use std::io::{Print, Read, Write};
 
@@ -44,7 +44,7 @@ fn put_header(out: &mut [u8]) -> usize
     header(out)
 }
 
-fn put_lines(r: Reader, piece: &[u8], out: &mut [u8]) -> Read
+fn put_lines(r: Reader, piece: &[u8], out: &mut [u8]) -> session_draw::Read
     requires { (length piece.now ≤ draw_piece) × (draw_lent ≡ length out.old) }
     ensures { (result.reader ≡ draws.piece_behind r piece.now)
         × loops.Put result.at out.new (draws.piece_text r piece.now)
