@@ -1,0 +1,9 @@
+-- Each case takes at least a byte and no more than are left.
+use Rattle.std.proofs.Common.{◌-◌, ◌≤◌, length}
+use Rattle.tape_cases.proofs.all.Given as goal
+
+abbrev pub invariant-loop-at : goal.invariant-loop-at
+invariant-loop-at g l = l.at ≤ length l.cases
+
+abbrev pub decreases-loop-at : goal.decreases-loop-at
+decreases-loop-at g l = length l.cases - l.at
