@@ -19,14 +19,18 @@ for tool in "${cc%% *}" "${nm%% *}"; do
 done
 mkdir -p "$out"
 
-# library CRATE HEADER: proves it and all that it builds on, and builds it. The functions of the header are exported, and no other symbol is; and nothing
-# is wanted of C but memory copies.
+# is_fresh FILE: whether it is there, and no source is newer.
+is_fresh() {
+    [ -e "$1" ] && [ -z "$(find "$root/crates" "$root/crates.txt" -name out -prune -o -newer "$1" -type f \( -name '*.rt' -o -name '*.antt' -o -name crates.txt \) -print | head -n 1)" ]
+}
+# library CRATE HEADER: proves it and all that it builds on, and builds it, where it is missing or older than a source. The functions of the header are exported, and
+# no other symbol is; and nothing is wanted of C but memory copies.
 library() {
-    if ! (cd "$root/crates/$1" && rt lib) >"$out/$1.log" 2>&1; then
+    made=$root/crates/$1/out/lib$1.a
+    if ! is_fresh "$made" && ! (cd "$root/crates/$1" && rt lib) >"$out/$1.log" 2>&1; then
         tail "$out/$1.log" >&2
         fail "rt lib failed in crates/$1; the whole of what it said is in target/host/$1.log"
     fi
-    made=$root/crates/$1/out/lib$1.a
     [ -e "$made" ] || fail "rt lib made no $made: crates.txt is to list $1 as a static library ($1 staticlib: ..)"
     sed -n 's/^uint[0-9]*_t \(rvn_[a-z_]*\)(.*/\1/p' "$here/$2" | sort >"$out/$1.declared"
     $nm -g --defined-only "$made" | awk 'NF == 3 { print $3 }' | sort >"$out/$1.exported"
