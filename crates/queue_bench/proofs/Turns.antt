@@ -23,12 +23,12 @@ module _ (tasks values : List ℕ) (sum : ℕ) where
   unfolding by_chip
   chip_end n i total lo hi e f = let z : i ≡ lesser (length tasks) (length values) = omega (arith, e) in f ∙ ap (λ (x : ℕ). (chip_of tasks values sum x).total) z
 
-  pub line_turn : (i j : ℕ) (d u d2 u2 : List ℕ) (total time more : ℕ) → j ≡ suc i
+  pub line_behind_turn : (i j : ℕ) (d u d2 u2 : List ℕ) (total time more : ℕ) → j ≡ suc i
       → d ≡ (line_of tasks values sum i).delayed → u ≡ (line_of tasks values sum i).until
       → total ≡ (line_of tasks values sum i).total → d2 ≡ line_turn d u (at tasks i) (at values i) → u2 ≡ time_turn d u (at tasks i) (at values i)
       → time ≡ time_in u2 (at d2 0) → more ≡ mixed_of total (at d2 0) time
       → (d2 ≡ (line_of tasks values sum j).delayed) × (u2 ≡ (line_of tasks values sum j).until) × (more ≡ (line_of tasks values sum j).total)
-  line_turn i j d u d2 u2 total time more e f g h k l m p = rw (e, p, m, k, l, f, g, h) (refl, refl, refl)
+  line_behind_turn i j d u d2 u2 total time more e f g h k l m p = rw (e, p, m, k, l, f, g, h) (refl, refl, refl)
 
   pub line_end : (n i total : ℕ) → i ≤ n → n ≤ i → n ≡ lesser (length tasks) (length values) → total ≡ (line_of tasks values sum i).total
       → total ≡ by_line tasks values sum
