@@ -3,11 +3,8 @@ use Prim.Native.Nat.{ℕ, zero, suc, ◌+◌, ◌-◌, ◌*◌, ◌/◌, ◌≤�
 use native.Mathlib.Nat.{le_of_eq, min-le_left}
 use native.Mathlib.Omega.{arith}
 use mathlib.Core.Path.{◌≡◌, refl, sym, ap, ◌∙◌}
-use mathlib.Core.Bool.{Bool, true, false, cond}
-use mathlib.Core.List.{List, [], ◌∷◌, ◌++◌, append_assoc, append-nil}
-use borrow.Author.Tests.{eq-eqb, ne_eqb, eqb-false}
-use lib.Dec.{eqb}
-use lib.ListN.{length, take, drop, get_or, get_or-append, get_or-eq_default, length-append, length-drop, take-append-drop}
+use mathlib.Core.List.{List, [], ◌∷◌, ◌++◌}
+use lib.ListN.{length, take, drop, get_or, get_or-append, get_or-eq_default, length-append, length-drop}
 use lib.Seq.{length-take-le, get_or-take, get_or-append-add, take_all, drop-drop}
 use Rattle.tape_form.proofs.Reading.{sixteen}
 use Rattle.kernel.specs.View.{pad}
@@ -15,7 +12,7 @@ use Rattle.kernel.proofs.Padded.{pad_size}
 use Rattle.judge_pieces.specs.declared.Run.{Run}
 use Rattle.judging.specs.declared.Judge.{Judge}
 use Rattle.judge_pieces.specs.Bytes.{bytes}
-use Rattle.judge_pieces.proofs.Bytewise.{bytes_append, bytes_short, bytes_whole, bytes_begun}
+use Rattle.judge_pieces.proofs.Bytewise.{bytes_short, bytes_whole, bytes_begun}
 use Rattle.judging.specs.Pieces.{pending_of, fed, through}
 use Rattle.judge_pieces.specs.Onward.{onward}
 
