@@ -1,7 +1,7 @@
 -- What was promised of exceptions (specs/Exceptions) holds of the step that is shipped. The proofs carry the theorems of rules_exceptions over to the
 -- whole state. Assumes nothing.
 use Prim.Native.Nat.{ℕ}
-use mathlib.Core.Path.{◌≡◌, refl, sym, ap, ap₂, ◌∙◌}
+use mathlib.Core.Path.{◌≡◌, refl, sym, ap, ap₂, subst, ◌∙◌}
 use mathlib.Core.Logic.{◌≢◌, ◌↔◌, ◌⊎◌}
 use mathlib.Core.Bool.{Bool, true, false, cond}
 use mathlib.Core.List.{List, [], ◌∷◌, map}
@@ -17,7 +17,7 @@ use Rattle.rules.specs.Run as R
 use Rattle.rules.proofs.Words.{cmd}
 use Rattle.rules_exceptions.specs.Exceptions.{owner, whose_of, task_of, next, answer, run, fresh, sound}
 use Rattle.rules_exceptions.specs.Exceptions as X
-use Rattle.rules_exceptions.specs.Words.{sets, Unshown}
+use Rattle.rules_exceptions.specs.Words.{sets, Unshown, SetUnshown}
 use Rattle.rules_exceptions.proofs.Kept.{tests_state, idle_none, owner_started}
 use Rattle.rules_exceptions.proofs.Theorems as theorems
 use Rattle.kernel_checks.specs.declared.Command.{Command}
@@ -29,6 +29,7 @@ use Rattle.kernel_ready.specs.Ready.{runner_in}
 use Rattle.kernel_ready.proofs.Laws.{front_idle}
 use Rattle.kernel.specs.Public as P
 use Rattle.kernel_state.specs.declared.State.{State}
+use Rattle.kernel_state.specs.declared.Answer.{Answer}
 use Rattle.kernel_state.specs.Public.{view, encode, is_sound, report, shape, step_of}
 use Rattle.kernel_state.proofs.Written.{written_back, machine_sound, encode_sound, step_on, step_sound, refused_keeps, alike}
 use Rattle.promises.specs.Words.{fresh_of, run_of, answers_of, moments_of}
@@ -182,9 +183,18 @@ idle_shows_none s cs d e = rw (written_back s e) at (idle_on (view s) (machine_s
     idle_on : (x : X.State) → sound x ≡ true → (answer_behind (encode x) cs d).running.0 ≡ 0 → (answer_behind (encode x) cs d).exception ≡ false
     idle_on x k = rw (answer_on x k cs d) (theorems.idle_never x (map to_rules cs) (to_rules d) (idle_none ((tests_state x).sure k)))
 
+-- what an answer from the fresh machine shows
+abbrev FromFresh : List Command → Command → Answer → Type 0
+FromFresh cs d a =
+    let t = a.running.0 in
+    a.exception ≡ true
+    → (t ≢ 0) × (a.code ≡ 0)
+    × (SetUnshown t fresh (map to_rules cs) ⊎ (sets (run fresh (map to_rules cs)) (to_rules d) t ≡ true))
+
 pub none_unset : NoneUnset
 unfolding fresh_state
-none_unset cs d = rw (answer_on fresh theorems.fresh_is_sound cs d) (theorems.fresh_none_unset (map to_rules cs) (to_rules d))
+none_unset cs d =
+    subst (FromFresh cs d) (sym (answer_on fresh theorems.fresh_is_sound cs d)) (theorems.fresh_none_unset (map to_rules cs) (to_rules d))
 
 pub refused_keeps_all : RefusedKeepsAll
 refused_keeps_all s c = refused_keeps s (to_rules c)

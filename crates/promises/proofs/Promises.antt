@@ -15,7 +15,8 @@ use Rattle.rules.specs.Run.{next, released, answer, run, answers}
 use Rattle.rules.proofs.Words.{All, moments, wakes, wakes_in}
 use Rattle.rules.proofs.Sounds.{Sound}
 use Rattle.rules.proofs.Step.{next_sound, run_sound, fresh_sound}
-use Rattle.rules.proofs.Wakes.{a_wake, keeps_its_turn, at_wake, question_left, left_question, wakes_in_row, row_of_wakes}
+use Rattle.rules.proofs.Wakes as Row
+use Rattle.rules.proofs.Wakes.{keeps_its_turn, at_wake, question_left, left_question, wakes_in_row, row_of_wakes}
 use Rattle.rules.proofs.Theorems as rules
 use Rattle.kernel.specs.declared.Kernel.{Kernel}
 use Rattle.kernel_checks.specs.declared.Command.{Command}
@@ -109,14 +110,14 @@ wakes_left_seen k t r e =
     let z = stands k e in
     subst (λ (x : Kernel). SeenFrom x t r) z.written (on (view k) z.machine)
   where
-    row : (n : ℕ) → map to_rules (replicate n a_wake) ≡ replicate n a_wake
+    row : (n : ℕ) → map to_rules (replicate n a_wake) ≡ replicate n Row.a_wake
     row zero = refl
-    row (suc n) = ap (λ (l : List Rules.Command). a_wake ∷ l) (row n)
+    row (suc n) = ap (λ (l : List Rules.Command). Row.a_wake ∷ l) (row n)
 
     on : (m : Machine) → Sound m → SeenFrom (encode m) t r
     on m s st n =
         let cs = replicate r a_wake in
-        rw (left_tie m s t, run_tie cs m s, step_on (run m (map to_rules cs)) (run_sound (map to_rules cs) m s) a_wake, row r)
+        rw (left_tie m s t, run_tie cs m s, step_on (run m (map to_rules cs)) (run_sound (map to_rules cs) m s) Row.a_wake, row r)
         (λ q. wakes_in_row r m s st t (question_left m s t r q), λ q. left_question m s t r (row_of_wakes r m s st t n q))
 
 -- carried over from the rules, for the tables of a sound machine
