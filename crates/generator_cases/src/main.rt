@@ -83,10 +83,7 @@ fn row(rt: &impl Print, i: u64, early: Kernel, on: Kernel) -> io::Result<()> {
     number(rt, p.span as u64)?;
     number(rt, 100 + i / 2 % 2)?;
     number(rt, i % 2)?;
-    show(
-        rt,
-        generator::draw(state(i / 32, early, on), seed, p),
-    )
+    show(rt, generator::draw(state(i / 32, early, on), seed, p))
 }
 
 fn main(rt: HostRuntime) -> io::Result<()> {
