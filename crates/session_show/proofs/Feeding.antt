@@ -11,7 +11,6 @@ use Rattle.queue_chip.specs.declared.Queue.{Queue}
 use Rattle.text.specs.declared.Held.{Held}
 use Rattle.text.specs.declared.Spoken.{Spoken}
 use Rattle.text.specs.declared.Cut.{Cut}
-use Rattle.decimal.specs.Buffer.{contents_after, place_after, InFront}
 use Rattle.text.specs.Commands.{command_of}
 use Rattle.text.specs.Lines.{cut_of, cuts, holds_after, held_bytes, nothing_held}
 use Rattle.decimal.proofs.Stores.{in_front}
@@ -20,7 +19,7 @@ use Rattle.session.proofs.Cuts.{cuts_whole, holds_whole}
 use Rattle.session.proofs.Filling.{Filling, filling_first, filling_on, filled_at, filled_out, filled_front}
 use Rattle.session_walk_text.specs.Walk.{number_after}
 use Rattle.show_text.specs.declared.Showing.{Showing}
-use Rattle.show_text.specs.Show.{state_behind, queue_behind, line_text, wanted, shown, state_after, queue_after, text_for, show_after, fed, fed_out}
+use Rattle.show_text.specs.Show.{state_behind, queue_behind, line_text, wanted, shown, state_after, queue_after, text_for, show_after}
 use Rattle.show_text.specs.Show.{standing, stood, Feeds}
 use Rattle.session_show.specs.declared.Done.{Done}
 use Rattle.session_show.specs.Carried.{carried, wanted_text, Puts}
