@@ -10,7 +10,7 @@ use lib.Dec.{eqb, leb}
 use lib.ListN.{length}
 use Rattle.rules.specs.Line.{empty}
 use Rattle.generator_draws.specs.Draw.{good_profile, profile_of as of-numbers}
-use Rattle.generator.specs.Public.{profile_of}
+use Rattle.generator.specs.Public.{profile_of as drawn_profile}
 use Rattle.text.specs.declared.FirstLine.{FirstLine}
 use Rattle.text.specs.FirstLine.{judged, refused_with, seed_of, text_next, settings_of, first_line_of}
 use Rattle.text.specs.Words.{bytes, word, behind}
@@ -30,7 +30,7 @@ judged_0 code t = go (eqb code 0) refl t
 -- From a first line that is accepted the generator gets a seed 1..4294967295 and a profile that it takes. (With the generator's `draws_go_on`: behind
 -- an accepted start no draw is refused.)
 pub record Taken (f : FirstLine) : Type 0 where
-  pub profile : good_profile (profile_of (profile_of f)) ≡ true
+  pub profile : good_profile (drawn_profile (profile_of f)) ≡ true
   pub least : 1 ≤ f.seed
   pub most : f.seed ≤ 4294967295
 
