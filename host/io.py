@@ -343,8 +343,8 @@ def salvages():
     stretches = b''.join(b'dropped: first byte %d, length 5\n' % (len(SOUND) + 21 * i) for i in range(3000))
     hold('salvage: many pieces', salvage(old=old), stretches + b'kept: records %d, dropped bytes 15000, header yes\n' % (len(SOUND) // 16 + 3000), 0)
     left('salvage: many pieces', old=old, new=SOUND + SOUND[16:32] * 3000)
-    # the folder cannot be opened or synced: the new tape is there all the same
-    for how in ({'open': f'3 {errno.EACCES} 1'}, {'sync': f'1 {errno.EINVAL} 1'}):
+    # the folder cannot be opened or synced, or the new tape, which is on its device by then, not be closed: it is there all the same
+    for how in ({'open': f'3 {errno.EACCES} 1'}, {'sync': f'1 {errno.EINVAL} 1'}, {'close': f'0 {errno.EIO} 1'}):
         hold(f'salvage: {how}', salvage(how=how), TOLD, 0)
         left(f'salvage: {how}', old=TORN, new=SOUND)
 
@@ -366,7 +366,7 @@ def failed_salvages():
         broken(f'listing fails behind {at} bytes', told(OUTPUT, errno.ENOSPC), out=TOLD[:at], how={'write': f'{at} {errno.ENOSPC} 1'})
     for at in (0, 16, 100, len(SOUND) - 1):
         broken(f'writing fails behind {at} bytes', told('new.part could not be written: ', errno.ENOSPC), how={'file': f'{at} {errno.ENOSPC} 1', 'most': 50})
-    for what, said in (('sync', 'new.part could not be brought to its device: '), ('close', 'new.part could not be closed: '), ('rename', 'new.part could not be renamed: ')):
+    for what, said in (('sync', 'new.part could not be brought to its device: '), ('rename', 'new.part could not be renamed: ')):
         broken(f'{what} fails', told(said, errno.EIO), out=TOLD, how={what: f'0 {errno.EIO} 1'})
     broken('the new name is taken meanwhile', told('new could not be made: ', errno.EEXIST), out=TOLD, how={'open': f'2 {errno.EEXIST} 1'})
     broken('the old tape cannot be opened', told('old could not be opened: ', errno.EMFILE), 2, b'', how={'open': f'0 {errno.EMFILE} 1'})
