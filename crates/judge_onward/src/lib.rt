@@ -16,7 +16,7 @@ use record_kept::kept_of;
 
 // The next 16 bytes. 15 and 17 come before any judgement of the record; behind a verdict nothing is looked at.
 // From judging::Judge::fresh on the tables are always sound (judging/proofs/Whole), so the step does not test them. Of
-// tables that somebody made up the answer is steppedOf's, and no rule speaks of it. Behind a record that differs they
+// tables that somebody made up the answer is stepped_of's, and no rule speaks of it. Behind a record that differs they
 // are the step's, as behind one that agrees.
 pub fn onward(
     base: &mut [u8; 32],

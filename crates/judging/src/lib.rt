@@ -147,7 +147,7 @@ impl Judge {
         through(whole, &piece[wanted..])
     }
 
-    // Whether a verdict is still to come. Behind it no piece changes anything (proofs/Whole, verdict-stays), so
+    // Whether a verdict is still to come. Behind it no piece changes anything (proofs/Whole, verdict_stays), so
     // nothing more need be read.
     pub fn goes_on(self) -> bool
         ensures { result ≡ behind.to_come self.run.stage }

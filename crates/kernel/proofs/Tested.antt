@@ -1,4 +1,4 @@
--- The code's test of a saved state is isSound: the tables are tidy, and the machine that they stand for is sound; no more and no less.
+-- The code's test of a saved state is is_sound: the tables are tidy, and the machine that they stand for is sound; no more and no less.
 -- What the test finds out (Passed) gives each of document 01's conditions, and each of those gives what it looks for. Assumes nothing.
 use Prim.Native.Nat.{ℕ, ◌≤◌, ◌<◌, ◌^◌}
 use native.Mathlib.Omega.{arith}
@@ -329,7 +329,7 @@ module _ (k : Kernel) (z : Sizes k) (d : Tidy k) (s : Sound (view k)) where
     quiet = quiet_found;
   }
 
--- The code's test is isSound.
+-- The code's test is is_sound.
 both_ways : (a b : Bool) → (a ≡ true → b ≡ true) → (b ≡ true → a ≡ true) → a ≡ b
 both_ways true true f g = refl
 both_ways true false f g = sym (f refl)

@@ -1,5 +1,5 @@
 -- What the code does to the tables, op by op: the contracts of the functions inside this crate, and of the public
--- step_trusting (steppedOf). (proofs/ ties each to the rules: of a sound state steppedOf is stepOf, Whole: step-meets.
+-- step_trusting (stepped_of). (proofs/ ties each to the rules: of a sound state stepped_of is step_of, Whole: step_meets.
 -- The other public contracts need none of this.)
 use Rattle.std.specs.Prelude.{ℕ, ◌+◌, ◌^◌, Bool, true, cond, ◌&&◌, List, eqb, leb, ltb, set}
 use Rattle.rules.specs.declared.Kind.{Kind}
@@ -131,7 +131,7 @@ carried_as (Ending e) k c = closing_of k c.a (e.serves && opens c)
 abbrev pub refused : ℕ → ℕ → Answer
 refused n x = answer_of n x 0
 
--- the step without the test (of a sound state it is stepOf: proofs/Whole, step-meets)
+-- the step without the test (of a sound state it is step_of: proofs/Whole, step_meets)
 -- It is refused as the rules refuse it, of the machine that the tables show, whatever they hold.
 unfoldable pub stepped_of : Kernel → Command → Stepped
 stepped_of k c =

@@ -1,4 +1,4 @@
--- The test of a saved state (crate kernel_sound), of the tables of a state. (proofs/Tested shows that it is isSound, no
+-- The test of a saved state (crate kernel_sound), of the tables of a state. (proofs/Tested shows that it is is_sound, no
 -- more and no less.)
 use Rattle.std.specs.Prelude.{Bool, List, ℕ}
 use Rattle.kernel_sound.specs.Test as test

@@ -1,4 +1,4 @@
--- `Kernel::sound` is isSound: the tables are lent to the test in place. Assumes nothing.
+-- `Kernel::sound` is is_sound: the tables are lent to the test in place. Assumes nothing.
 use Rattle.kernel.proofs.Kernel.sound.Goals as goal
 
 pub returns : goal.returns

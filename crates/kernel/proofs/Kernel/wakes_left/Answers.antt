@@ -1,4 +1,4 @@
--- `Kernel::wakes_left` is leftOf: each return is one of the cases of WakesLeftCases. Assumes nothing.
+-- `Kernel::wakes_left` is left_of: each return is one of the cases of WakesLeftCases. Assumes nothing.
 use mathlib.Core.Path.{◌≡◌, sym, ◌∙◌}
 use mathlib.Core.Bool.{true, false}
 use Rattle.kernel.specs.Public.{is_sound}

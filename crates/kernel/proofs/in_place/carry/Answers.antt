@@ -1,4 +1,4 @@
--- `carry` is carriedAs on the tables: each arm is the row of its kind, and what an op did to a table is what the row says
+-- `carry` is carried_as on the tables: each arm is the row of its kind, and what an op did to a table is what the row says
 -- (Ways, where it goes by a test). Assumes nothing.
 use mathlib.Core.Path.{refl}
 use lib.Dec.{eqb, ltb}

@@ -1,4 +1,4 @@
--- `sound` on lent tables is isSound: `tested` makes the test of specs/Test, and Tested shows that this is isSound, for the sizes that
+-- `sound` on lent tables is is_sound: `tested` makes the test of specs/Test, and Tested shows that this is is_sound, for the sizes that
 -- the types give (`sized`). Assumes nothing.
 use mathlib.Core.Path.{◌∙◌}
 use Rattle.kernel.specs.declared.Kernel.{Kernel}

@@ -1,5 +1,5 @@
 -- `step` in place is step_of on the tables: those that are not sound stay as they are, and of sound ones the step is
--- `step_trusting`, which is the rules' (Whole: step-meets). Assumes nothing.
+-- `step_trusting`, which is the rules' (Whole: step_meets). Assumes nothing.
 use mathlib.Core.Path.{◌≡◌, sym, ap, ◌∙◌}
 use mathlib.Core.Bool.{false}
 use Rattle.rules.specs.Machine.{Command}

@@ -1,4 +1,4 @@
--- `step_trusting` is steppedOf on the tables: a refused command ends as Ends says, and an accepted one is carried out. Assumes nothing.
+-- `step_trusting` is stepped_of on the tables: a refused command ends as Ends says, and an accepted one is carried out. Assumes nothing.
 use mathlib.Core.Path.{◌≡◌, ap, ◌∙◌}
 use Rattle.rules.specs.Machine.{Command}
 use Rattle.rules.specs.Kinds.{kind}

@@ -1,4 +1,4 @@
--- `State::step` is stepOf: the tables and what is pending are lent to `step` in place, and what it leaves in them is the next state. Assumes nothing.
+-- `State::step` is step_of: the tables and what is pending are lent to `step` in place, and what it leaves in them is the next state. Assumes nothing.
 use Rattle.kernel_state.proofs.State.step.Goals as goal
 
 pub returns : goal.returns

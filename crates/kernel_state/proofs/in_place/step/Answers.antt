@@ -1,4 +1,4 @@
--- `step` in place is stepOf on the tables and what is pending: the kernel's step, and what is settled by its answer (Steps). Assumes nothing.
+-- `step` in place is step_of on the tables and what is pending: the kernel's step, and what is settled by its answer (Steps). Assumes nothing.
 -- (k: the lent tables; asked: the command.)
 use mathlib.Core.Path.{sym, ap, ◌∙◌}
 use Rattle.rules.specs.Machine.{Command}
