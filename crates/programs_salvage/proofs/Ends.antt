@@ -9,8 +9,7 @@ use borrow.Author.Tests.{eqb-true, leb-true}
 use lib.Dec.{eqb, leb}
 use lib.ListN.{length}
 use lib.Seq.{sets, length-sets, length-take-le}
-use Rattle.io.specs.Counts.{IsPrefixLen}
-use Rattle.decimal.specs.Buffer.{contents_after, place_after}
+use Rattle.decimal.specs.Buffer.{contents_after, place_after, InFront}
 use Rattle.programs_flow.specs.declared.Went.{Went}
 use Rattle.programs_flow.specs.Flow.{where_done}
 use Rattle.programs_salvage.specs.Work.{AllTaken, Salvaged, NamedOrFailed, DoneRefusedFailed}
@@ -39,10 +38,10 @@ taken b w e t (inr (inr z)) = let k = eqb-true w.kind 1 (sym e ∙ t) in absurd 
 -- ---- a name with a text put behind it
 
 pub counted : (room : ℕ) (text out after : List ℕ) (at place : ℕ) → at ≤ length out → length text ≤ room
-    → (place ≡ place_after room out at text) × (after ≡ contents_after room out at text) → IsPrefixLen place after
+    → (place ≡ place_after room out at text) × (after ≡ contents_after room out at text) → InFront place after
 counted room text out after at place h t (e, f) = rw (e, f) (go (leb (at + room) (length out)) refl)
   where
-    go : (b : Bool) → leb (at + room) (length out) ≡ b → IsPrefixLen (cond b (at + length text) at) (cond b (sets out at text) out)
+    go : (b : Bool) → leb (at + room) (length out) ≡ b → InFront (cond b (at + length text) at) (cond b (sets out at text) out)
     go true l =
         let o = leb-true (at + room) (length out) l in
         let k : at + length text ≤ length (sets out at text) = simp length-sets (omega arith) in (k, sym (length-take-le _ _ k))

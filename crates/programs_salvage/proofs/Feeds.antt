@@ -5,7 +5,7 @@ use native.Mathlib.Omega.{arith}
 use mathlib.Core.Bool.{Bool, true, false, cond}
 use mathlib.Core.Path.{◌≡◌, refl, ap, sym, ◌∙◌}
 use mathlib.Core.List.{List, [], ◌∷◌, ◌++◌}
-use mathlib.Core.Logic.{◌⊎◌, inl, inr, ⊎_elim}
+use mathlib.Core.Logic.{inl, inr, ⊎_elim}
 use borrow.Author.Tests.{le-leb}
 use lib.Dec.{eqb, leb}
 use lib.ListN.{length, take, drop, length-append, length-drop}
@@ -19,7 +19,7 @@ use Rattle.salvage_marks.specs.declared.Fed.{Fed}
 use Rattle.salvage_marks.specs.Torn.{pick, cells}
 use Rattle.salvage_marks.specs.Pieces.{last_place, decided, written, listed, after, held, fed_fits, fed_of, FedTo, movable, MovedTo}
 use Rattle.salvage_marks.proofs.Ahead.{ahead_few, rest_short}
-use Rattle.salvage_marks.proofs.Chained.{Fits, fed_fits}
+use Rattle.salvage_marks.proofs.Chained.{Fits, fits_so}
 use Rattle.salvage_text.specs.Lines.{list_text}
 use Rattle.programs_salvage.specs.declared.Stand.{Stand}
 use Rattle.programs_salvage.specs.Work.{Between}
@@ -50,7 +50,7 @@ well t buf n m r e z = go (fed_fits t buf n m) refl e
         → Well t buf n m r
     go true f x =
         record {
-          fits = fed_fits t buf n m f;
+          fits = fits_so t buf n m f;
           torn = ap (λ (q : Fed). q.torn) x;
           done = ap (λ (q : Fed). q.done) x;
           kept = ap (λ (q : Fed). q.kept) x;

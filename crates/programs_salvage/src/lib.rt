@@ -10,7 +10,7 @@
 mod pieces;
 
 ghost use Rattle.std.specs.Prelude.{◌≡◌};
-ghost use Rattle.std.specs.Io.{IsPrefixLen};
+ghost use Rattle.decimal.specs.Buffer.{InFront};
 ghost use Rattle.programs_salvage.specs.Work.{AllTaken, Salvaged, NamedOrFailed, DoneRefusedFailed};
 
 use programs_flow::{Went, checked, has_ended, not_written, refused, told};
@@ -101,7 +101,7 @@ fn give_name<R: std::rt::Files<File = File>, E: Print>(
 
 // How many bytes of a name stand up to its last slash, the slash included.
 fn folder_of(name: &[u8]) -> usize
-    ensures { IsPrefixLen result name.now }
+    ensures { InFront result name.now }
 {
     let mut n = name.len();
     while n > 0 && name[n - 1] != b'/' {
@@ -112,6 +112,7 @@ fn folder_of(name: &[u8]) -> usize
 
 // The folder's entry of the new name is brought to its device, where a folder can be opened and synced. That the tape
 // itself is there was seen to before.
+// (A slash is a character of its own, so the name can be cut behind it, and `get` gives what stands up to there.)
 fn sync_folder<R: std::rt::Files<File = File>>(rt: &R, new: &str) {
     let n = folder_of(new.as_bytes());
     let folder = if n == 0 {
@@ -215,7 +216,7 @@ fn from_to<R: std::rt::Files<File = File>, W: Write, E: Print + IsTerminal>(
 // NEW.part: word 3 of the command line with .part behind it, and how many bytes that has; 0 where there is no room for
 // it. (Where there is no such word `run` knows it.)
 fn part_name<V: Env>(env: &V, name: &mut [u8]) -> usize
-    ensures { IsPrefixLen result name.new }
+    ensures { InFront result name.new }
 {
     let n = env.arg(3, name).unwrap_or(0);
     let end = put_text(name, n, b".part");
