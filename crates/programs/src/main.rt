@@ -16,30 +16,36 @@ use programs_flow::refused;
 use std::process::ExitCode;
 use std::rt::Env;
 
+// Each program's buffers stand on the stack only where it runs: none of the five is inlined.
+#[inline(never)]
 fn rvn_program_walk(rt: &HostRuntime) -> u32
     ensures { DoneOrFailed result }
 {
     programs_walk::run(&mut rt.stdin(), &mut rt.stdout(), &rt.stderr()) as u32
 }
 
+#[inline(never)]
 fn rvn_program_draw(rt: &HostRuntime) -> u32
     ensures { DoneOrFailed result }
 {
     programs_draw::run(&mut rt.stdin(), &mut rt.stdout(), &rt.stderr()) as u32
 }
 
+#[inline(never)]
 fn rvn_program_judge(rt: &HostRuntime) -> u32
     ensures { JudgedOrFailed result }
 {
     programs_judge::run(&mut rt.stdin(), &mut rt.stdout(), &rt.stderr()) as u32
 }
 
+#[inline(never)]
 fn rvn_program_salvage(rt: &HostRuntime) -> u32
     ensures { DoneRefusedFailed result }
 {
     programs_salvage::run(rt, &mut rt.stdout(), &rt.stderr()) as u32
 }
 
+#[inline(never)]
 fn rvn_program_show(rt: &HostRuntime) -> u32
     ensures { show.DoneRefusedFailed result }
 {
