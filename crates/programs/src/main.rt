@@ -1,9 +1,10 @@
 // The programs walk, draw, judge and show, over standard input: what is read there is handed to session, or to judging,
-// and what is printed of it is written to standard output. The first word of the command line says which one runs. Each answers its status: 0 where it did its work (judge: the
-// tape agrees), 1 (judge) differs, 2 (judge) refused, (show) the line that is asked for is not there or is no number,
-// 3 where a read or a write failed. A failed read or write ends the work at once, and nothing is carried out or printed
-// of what was not read. And salvage, over the two files that the command line names: 0 where the new tape is there,
-// 2 bad use, 3 where a read or a write failed. Where the first word is none of the five the status is 2.
+// and what is printed of it is written to standard output. The first word of the command line says which one runs.
+// Each answers its status: 0 where it did its work (judge: the tape agrees), 1 (judge) differs, 2 (judge) refused,
+// (show) the line that is asked for is not there or is no number, 3 where a read or a write failed. A failed read or
+// write ends the work at once, and nothing is carried out or printed of what was not read. And salvage, over the two
+// files that the command line names: 0 where the new tape is there, 2 bad use, 3 where a read or a write failed. Where
+// the first word is none of the five the status is 2.
 #![tactic(auto)]
 
 ghost use Rattle.std.specs.Prelude.{◌≤◌};
@@ -18,35 +19,35 @@ use std::rt::Env;
 
 // Each program's buffers stand on the stack only where it runs: none of the five is inlined.
 #[inline(never)]
-fn rvn_program_walk(rt: &HostRuntime) -> u32
+pub fn rvn_program_walk(rt: &HostRuntime) -> u32
     ensures { DoneOrFailed result }
 {
     programs_walk::run(&mut rt.stdin(), &mut rt.stdout(), &rt.stderr()) as u32
 }
 
 #[inline(never)]
-fn rvn_program_draw(rt: &HostRuntime) -> u32
+pub fn rvn_program_draw(rt: &HostRuntime) -> u32
     ensures { DoneOrFailed result }
 {
     programs_draw::run(&mut rt.stdin(), &mut rt.stdout(), &rt.stderr()) as u32
 }
 
 #[inline(never)]
-fn rvn_program_judge(rt: &HostRuntime) -> u32
+pub fn rvn_program_judge(rt: &HostRuntime) -> u32
     ensures { JudgedOrFailed result }
 {
     programs_judge::run(&mut rt.stdin(), &mut rt.stdout(), &rt.stderr()) as u32
 }
 
 #[inline(never)]
-fn rvn_program_salvage(rt: &HostRuntime) -> u32
+pub fn rvn_program_salvage(rt: &HostRuntime) -> u32
     ensures { DoneRefusedFailed result }
 {
     programs_salvage::run(rt, &mut rt.stdout(), &rt.stderr()) as u32
 }
 
 #[inline(never)]
-fn rvn_program_show(rt: &HostRuntime) -> u32
+pub fn rvn_program_show(rt: &HostRuntime) -> u32
     ensures { show.DoneRefusedFailed result }
 {
     programs_show::run_asked(rt, &mut rt.stdin(), &mut rt.stdout(), &rt.stderr()) as u32
