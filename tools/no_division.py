@@ -57,9 +57,7 @@ def sources():
 # A quotient by a constant is the upper half of a product, so a multiplication that keeps that half is looked for too.
 DIVISION = re.compile(r'i?div[bwlq]?$|mul[bwlq]?$|mulx')
 # Document 01 draws by remainders, so draw divides where it draws: in these functions, or in those that the compiler has put them into.
-DRAWS = re.compile(r'generator(?:_\w+)?::|session_draw::draw_|programs_draw::')
-# The toolchain's decimals are linked for the reason of a failure.
-REASON = re.compile(r'core::fmt::|programs_flow::reason::')
+DRAWS = re.compile(r'generator(?:_\w+)?::|session_draw::draw_|programs_draw::|programs::rvn_program_draw$')
 PROGRAM = ROOT / 'target' / 'run' / 'programs'
 
 
@@ -89,12 +87,10 @@ def divisions():
 def built():
     count, found = divisions()
     drawn = [f for f in found if DRAWS.match(f[0]) and 'div' in f[1]]
-    reasons = [f for f in found if REASON.match(f[0])]
-    wrong = [f'{function}: {said}' for function, said in found if (function, said) not in drawn + reasons]
+    wrong = [f'{function}: {said}' for function, said in found if (function, said) not in drawn]
     if wrong:
         sys.exit('no_division: the machine code of walk, draw, judge, salvage and show divides:\n' + '\n'.join(wrong))
-    print(f'no_division: the program that is walk, draw, judge, salvage and show has {count} instructions and no division but the {len(drawn)} of the draws'
-          f' and the {len(reasons)} in the number of a failure, which is not printed')
+    print(f'no_division: the program that is walk, draw, judge, salvage and show has {count} instructions and no division but the {len(drawn)} of the draws')
 
 
 def main():
