@@ -155,7 +155,7 @@ module _ {S : Type 0} (after : After S) (text : Text S) (s t u : S) (was went no
 pub at_end : {S : Type 0} (after : After S) (text : Text S) (wants : S → Bool) (s t : S) (was went : Went) (turns : ℕ)
     → Running after text s t was went turns → (1 ≤ went.kind) ⊎ T (not (wants t)) ⊎ (all_turns ≤ turns) → Looped after text wants s t was went
 at_end after text wants s t was went turns r why =
-    record { pieces = r.pieces; none_empty = r.none_empty; state = r.state; taken = r.taken; over = over r.counted why; stopped = r.stopped }
+    record { pieces = r.pieces; none_empty = r.none_empty; state = r.state; taken = r.taken; over = over r.counted why; stopped = λ k. r.stopped (omega (arith, k)) }
   where
     over : (1 ≤ went.kind) ⊎ (length r.pieces ≡ turns) → (1 ≤ went.kind) ⊎ T (not (wants t)) ⊎ (all_turns ≤ turns) → Over wants t r.pieces went
     over (inl b) w = inl b
