@@ -395,7 +395,7 @@ def refused_salvages():
     refuse('the part is there', ('old', 'new'), ('run: ', "'new.part' is there already", 'remove it'), beside=['new.part'])
     refuse('old and new are one', ('old', 'old'), ('run: ', "'old' is there already"))
     # A path of the toolchain's library is text.
-    refuse('a name that is no UTF-8', ('old', os.fsdecode(b'new\xff')), ('salvage wants two names in UTF-8\n',))
+    refuse('a name that is no UTF-8', ('old', os.fsdecode(b'new\xff')), 'salvage wants two names in UTF-8\n')
     refuse('no folder for the new tape', ('old', 'none/new'), ('none/new.part could not be made', os.strerror(errno.ENOENT)))
     shutil.rmtree(PLACE)
     PLACE.mkdir()
