@@ -1,5 +1,5 @@
 -- `decimal_print::put_number` meets its contract: a number below ten is its own digit; any other has as many digits as its width says. That the table is
--- `powers_of_ten` is computed here, over the whole table (width-requires). Assumes nothing.
+-- `powers_of_ten` is computed here, over the whole table (width-k-requires). Assumes nothing.
 use native.Mathlib.Omega.{arith}
 use mathlib.Core.Path.{refl}
 use Rattle.decimal_print.proofs.Turns.{own_digit, all_digits, width_between, wide_enough}

@@ -28,9 +28,6 @@ loop-i-preserved c =
       rest_kept l h.loop-i.cells h.loop-i.i (omega (arith, n)) (omega (arith, m)) h.loop-i.invariant.4,
     )
 
-pub bounds-cells-31 : goal.bounds-cells-31
-bounds-cells-31 c = let n = c.loop-i.invariant.1 in omega (arith, n)
-
 pub returns : goal.returns
 returns c =
     let h = c in
