@@ -10,7 +10,7 @@ the first error of each edit and keeps no other: that is to be at one of the nam
 counts only where a fact fails:
   - one that follows from another does not count: what it uses was not proved;
   - one of shape does not: a name, a field, a case or an argument that is not there, a limit of the prover, and every error in specs/ and src/, where no fact is
-    proved. Nor may such a one be the first, but for a name that is gone from a proof file, which `rt ci` passes over too where something else fails.
+    proved. Nor may such a one be the first.
 An error in proofs/F/Answers.antt, or another file there, is of function F and of a goal of it. It is named as `F`, as `GOAL`, or as `F (GOAL)`.
 """
 import pathlib
@@ -31,7 +31,6 @@ ERROR = re.compile(r'(?:\./)?((?:src|specs|proofs)/\S+?):(\d+):\d+: error: (?:`(
 OPEN = re.compile(r'note: (?:\./)?(src/\S+?):(\d+):\d+: it is not proved that .*?\(`([^`]+)`\)')
 FUNCTION = re.compile(r'fn \w+::(\S+): not proved')
 FOLLOWS = re.compile(r'`[^`]+` was not admitted|was not admitted \(')
-GONE = re.compile(r'has no field|is not in scope|has no `')
 SHAPE = re.compile(
     r'is not in scope|that can be named|has no field|has no `|is not a field of|missing field|has no clause for|has no case for|no clause covers|is already declared'
     r'|is applied to an argument|needs a function|which binds|a dimension \(.*\) is expected|not a structural call'
@@ -133,9 +132,8 @@ def fault(edit, found, why, whole):
         return f'it has no line `{LINE}NAME`'
     if why:
         return why
-    first = next((p for p in found if not (p.shape and GONE.search(p.line))), found[0])
-    if first.shape:
-        return f'its first error is of shape, and of no fact: {first.line[:300]}'
+    if found[0].shape:
+        return f'its first error is of shape, and of no fact: {found[0].line[:300]}'
     facts = [p for p in found if not p.shape]
     places = ', '.join(dict.fromkeys(p.text for p in facts))
     missing = [name for name in names if not any(p.is_named(name) for p in facts)]
