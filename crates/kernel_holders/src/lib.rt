@@ -6,6 +6,9 @@ ghost use Rattle.kernel_cells.specs.Cells as cells;
 
 use kernel_objects::admits;
 
+// The objects are 0..7. (By name, so that the step keeps its name in proofs where a wrong edit changes the number.)
+const OBJECT_COUNT: u8 = 8;
+
 // Each holder may hold its object, and no other holds it.
 pub fn holders_fit<'a>(base: &'a [u8; 32], held: &'a [u8; 32], ceiling: [u8; 8]) -> bool
     ensures { result ≡ cells.holders_fit ceiling (replicate 8 0) base.now held.now }
@@ -20,7 +23,7 @@ pub fn holders_fit<'a>(base: &'a [u8; 32], held: &'a [u8; 32], ceiling: [u8; 8])
             t += 1;
             continue;
         }
-        if 8 <= o {
+        if OBJECT_COUNT <= o {
             return false;
         }
         let j = o as usize;

@@ -19,15 +19,15 @@ loop-t-preserved-then-o-eq0 c =
       h.loop-t.invariant.1 ∙ holders_skip a.ceiling h.loop-t.taken a.base.now a.held.now h.loop-t.t (omega arith) (omega arith) c.if-o-eq0.true,
     )
 
-pub returns-then-o-ge8 : goal.returns-then-o-ge8
-returns-then-o-ge8 c =
+pub returns-then-o-ge-OBJECT_COUNT : goal.returns-then-o-ge-OBJECT_COUNT
+returns-then-o-ge-OBJECT_COUNT c =
     let h = c in
     let a = h.args in
     let len : length a.held.now ≡ 32 = search rules in
     let all : length a.base.now ≡ 32 = search rules in
     sym
     (h.loop-t.invariant.1 ∙ holders_out a.ceiling h.loop-t.taken a.base.now a.held.now h.loop-t.t (omega arith) (omega arith) c.if-o-eq0.false
-    c.if-o-ge8.true)
+    c.if-o-ge-OBJECT_COUNT.true)
 
 pub returns-then-not-free-admits : goal.returns-then-not-free-admits
 returns-then-not-free-admits c =
@@ -37,7 +37,7 @@ returns-then-not-free-admits c =
     let all : length a.base.now ≡ 32 = search rules in
     sym
     (h.loop-t.invariant.1 ∙ holders_stop a.ceiling h.loop-t.taken a.base.now a.held.now h.loop-t.t (omega arith) (omega arith)
-    c.if-o-eq0.false c.if-o-ge8.false (rw (← c.admits.ensures) c.if-not-free-admits.true))
+    c.if-o-eq0.false c.if-o-ge-OBJECT_COUNT.false (rw (← c.admits.ensures) c.if-not-free-admits.true))
 
 pub loop-t-preserved : goal.loop-t-preserved
 loop-t-preserved c =
@@ -48,7 +48,7 @@ loop-t-preserved c =
     let now : length h.loop-t.taken ≡ 8 = h.loop-t.invariant.0 in (
       simp length-set now,
       h.loop-t.invariant.1 ∙ holders_step a.ceiling h.loop-t.taken a.base.now a.held.now h.loop-t.t (omega arith) (omega arith)
-          c.if-o-eq0.false c.if-o-ge8.false
+          c.if-o-eq0.false c.if-o-ge-OBJECT_COUNT.false
           (rw (← c.admits.ensures) c.if-not-free-admits.false),
     )
 
