@@ -19,3 +19,4 @@ pub mod Before
 pub mod Release
 pub mod Goes
 pub mod Theorems
+pub mod Single
