@@ -14,8 +14,8 @@ use Rattle.kernel_ready.specs.Ready.{runner_in, popped, to_tail, released_line}
 use Rattle.kernel_close.specs.Moves.{waits_in, closed_line}
 use Rattle.kernel.specs.declared.Kernel.{Kernel}
 use Rattle.kernel.specs.declared.Stepped.{Stepped}
-use Rattle.kernel.specs.Lent.{tables, Ends}
-use Rattle.kernel.specs.Public.{running_of}
+use Rattle.kernel.specs.Lent.{tables}
+use Rattle.kernel.specs.Public.{Ends, running_of}
 use Rattle.kernel.specs.Step.{runner_of, accepted, carried_as, slept_of, yielded_of, advanced_of, woken_of, held_of, awaiting_of, served_of, closed_of, closing_of}
 use Rattle.kernel.specs.Step.{with_clock, grown}
 

@@ -10,6 +10,7 @@ ghost use Rattle.kernel.specs.Step as step;
 
 mod command;
 pub mod in_place;
+pub mod on_tables;
 
 pub use command::Answer;
 pub use kernel_checks::Command;
@@ -83,18 +84,7 @@ impl Kernel {
     pub fn sound(self) -> bool
         ensures { result ≡ is_sound self }
     {
-        in_place::sound(
-            &self.base,
-            &self.ready,
-            &self.delayed,
-            &self.held,
-            &self.way,
-            &self.until,
-            self.ceiling,
-            self.waiter,
-            self.clock,
-            self.started,
-        )
+        in_place::sound(&self)
     }
 
     // A state that is not sound is answered 1, 0, 0 and comes back as it is; a refused command its number and the same
@@ -102,41 +92,8 @@ impl Kernel {
     pub fn step(self, c: Command) -> Stepped
         ensures { result ≡ step_of self (to_rules c) }
     {
-        let mut base = self.base;
-        let mut ready = self.ready;
-        let mut delayed = self.delayed;
-        let mut held = self.held;
-        let mut way = self.way;
-        let mut until = self.until;
-        let mut ceiling = self.ceiling;
-        let mut waiter = self.waiter;
-        let mut clock = self.clock;
-        let mut started = self.started;
-        let answer = in_place::step(
-            &mut base,
-            &mut ready,
-            &mut delayed,
-            &mut held,
-            &mut way,
-            &mut until,
-            &mut ceiling,
-            &mut waiter,
-            &mut clock,
-            &mut started,
-            c,
-        );
-        let next = Kernel {
-            base,
-            ready,
-            delayed,
-            held,
-            way,
-            until,
-            ceiling,
-            waiter,
-            clock,
-            started,
-        };
+        let mut next = self;
+        let answer = in_place::step(&mut next, c);
         Stepped { next, answer }
     }
 

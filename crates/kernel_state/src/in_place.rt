@@ -51,7 +51,7 @@ pub fn step(
         };
     }
     let closer = kernel_ready::runner(ready);
-    let said = kernel::in_place::step(
+    let said = kernel::on_tables::step(
         base, ready, delayed, held, way, until, ceiling, waiter, clock, started, c,
     );
     let s = settle(*pending, whose(c), closer, said);

@@ -8,7 +8,7 @@ use Rattle.kernel.specs.Lent.{tables}
 use Rattle.kernel.specs.Public.{to_rules}
 use Rattle.kernel.specs.Step.{carried_as, created_of, declared_of, begun_of, due_of, wake_of, advanced_of, held_of}
 use Rattle.kernel.proofs.Ways.{as_kind, delays, wakes, enters, ending}
-use Rattle.kernel.proofs.in_place.carry.Goals as goal
+use Rattle.kernel.proofs.on_tables.carry.Goals as goal
 
 pub returns-in-NoKind : goal.returns-in-NoKind
 unfolding carried_as

@@ -9,7 +9,7 @@ use Rattle.kernel.specs.Public.{to_rules, is_sound, step_of}
 use Rattle.kernel.specs.Lent.{tables}
 use Rattle.kernel.specs.Step.{refused}
 use Rattle.kernel.proofs.Whole.{step_meets}
-use Rattle.kernel.proofs.in_place.step.Goals as goal
+use Rattle.kernel.proofs.on_tables.step.Goals as goal
 
 -- (k: the lent tables; asked: the command.)
 pub returns-then-not-sound : goal.returns-then-not-sound

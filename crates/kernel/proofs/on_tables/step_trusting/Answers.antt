@@ -8,7 +8,7 @@ use Rattle.kernel.specs.declared.Stepped.{Stepped}
 use Rattle.kernel.specs.Public.{to_rules}
 use Rattle.kernel.specs.Lent.{tables}
 use Rattle.kernel.proofs.Ends.{shown_of, refused_end, accepted_end}
-use Rattle.kernel.proofs.in_place.step_trusting.Goals as goal
+use Rattle.kernel.proofs.on_tables.step_trusting.Goals as goal
 
 -- (k: the lent tables; asked: the command; found: the number that the checks found is the rules'.)
 pub returns-then-code-ne0 : goal.returns-then-code-ne0

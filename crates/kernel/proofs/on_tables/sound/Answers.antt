@@ -6,7 +6,7 @@ use Rattle.kernel.specs.Lent.{tables}
 use Rattle.kernel.proofs.Passed.{Fits}
 use Rattle.kernel.proofs.Tested.{test_same}
 use borrow.Author.Rules.{rules}
-use Rattle.kernel.proofs.in_place.sound.Goals as goal
+use Rattle.kernel.proofs.on_tables.sound.Goals as goal
 
 pub returns : goal.returns
 returns c =
