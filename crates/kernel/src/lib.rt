@@ -18,7 +18,7 @@ pub use kernel_line::{POId, TaskID};
 
 // Tables are indexed by the task 0..31 or by the object 0..7. A line ends at its first 0: idle is last in the ready
 // line, and never delayed.
-#[derive(Clone, Copy)]
+#[derive(Clone, Copy, PartialEq, Eq)]
 pub struct Kernel {
     // each task's base priority: 0 for idle, and for a task that is not created
     pub base: [u8; 32],
@@ -47,7 +47,7 @@ pub struct Stepped {
 }
 
 // The answer to "Wakes left".
-#[derive(Clone, Copy)]
+#[derive(Clone, Copy, PartialEq, Eq)]
 pub struct Left {
     pub code: u8,
     pub left: u8,
