@@ -8,30 +8,9 @@ ghost use Rattle.kernel.specs.Public.{Ends, to_rules, is_sound, step_of, running
 ghost use Rattle.kernel.specs.Step as step;
 
 use crate::command::Answer;
+use crate::in_place::{accepted, refused};
 use kernel_checks::{Command, Kind};
 use kernel_line::{POId, TaskID};
-
-// The answer to a refused command: its number, who runs, and nobody released.
-pub(crate) fn refused(code: u8, running: TaskID) -> Answer
-    ensures { result ≡ step.refused code running.0 }
-{
-    Answer {
-        code,
-        running,
-        released: TaskID(0),
-    }
-}
-
-// The answer to an accepted command: who runs behind it, and who is released.
-fn accepted(running: TaskID, released: u8) -> Answer
-    ensures { result ≡ step.accepted running.0 released }
-{
-    Answer {
-        code: 0,
-        running,
-        released: TaskID(released),
-    }
-}
 
 // An accepted command, carried out: the released task, 0 for nobody.
 fn carry(
