@@ -1,8 +1,10 @@
 -- What the code does to the tables, op by op: the contracts of the functions inside this crate, and of the public
 -- step_trusting (stepped_of). (proofs/ ties each to the rules: of a sound state stepped_of is step_of, Whole: step_meets.
 -- The other public contracts need none of this.)
-use Rattle.std.specs.Prelude.{ℕ, ◌+◌, ◌^◌, Bool, true, cond, ◌&&◌, List, eqb, leb, ltb, set}
+use Rattle.std.specs.Prelude.{ℕ, ◌+◌, ◌^◌, Bool, true, cond, ◌&&◌, List, eqb, leb, ltb, set, Result, Ok, Err}
 use Rattle.rules.specs.declared.Kind.{Kind}
+use Rattle.rules.specs.declared.Refusal.{Refusal}
+use Rattle.rules.specs.Numbers.{number_of}
 use Rattle.rules.specs.declared.Kind.TheVariants.{NoKind, Creating, Declaring, Starting, Delaying, Waking, Advancing}
 use Rattle.rules.specs.declared.Kind.TheVariants.{Opening, Entering, Ending}
 use Rattle.rules.specs.Machine.{Command, for_open, for_entry}
@@ -15,6 +17,7 @@ use Rattle.kernel_close.specs.Moves.{waits_in, closed_line}
 use Rattle.kernel_wake.specs.Due.{due_in}
 use Rattle.kernel.specs.declared.Kernel.{Kernel}
 use Rattle.kernel.specs.declared.Stepped.{Stepped}
+use Rattle.kernel.specs.declared.Left.{Left}
 use Rattle.kernel.specs.declared.command.Answer.{Answer}
 use Rattle.kernel.specs.View.{view}
 use Rattle.kernel.specs.Public.{answer_of, running_of}
@@ -141,3 +144,8 @@ stepped_of k c =
 -- ---- the question
 abbrev pub due_count : ℕ → ℕ → ℕ → ℕ
 due_count n time clock = cond (ltb n 32 && leb time clock) (more n) 0
+
+-- the answer with a count, or with a refusal
+abbrev pub left_as : Result ℕ Refusal → Left
+left_as (Ok n) = record { code = 0; left = n }
+left_as (Err r) = record { code = number_of r; left = 0 }

@@ -47,27 +47,67 @@ fn carry(k: &mut Kernel, kind: Kind, c: Command) -> u8
     match kind {
         Kind::NoKind => 0,
         Kind::Creating => {
-            kernel_ops::create(&mut k.base, &mut k.ready, k.ceiling, &k.held, TaskID(c.a), c.b)
+            kernel_ops::create(
+                &mut k.base,
+                &mut k.ready,
+                k.ceiling,
+                &k.held,
+                TaskID(c.a),
+                c.b,
+            )
         }
         Kind::Declaring => kernel_ops::declare(&mut k.ceiling, POId(c.a), c.b),
         Kind::Starting => kernel_ops::begin(&mut k.started),
         Kind::Delaying => kernel_time::delay(
-            &k.base, &mut k.ready, &mut k.delayed, &k.held, &mut k.until, k.ceiling, k.clock, c.value,
+            &k.base,
+            &mut k.ready,
+            &mut k.delayed,
+            &k.held,
+            &mut k.until,
+            k.ceiling,
+            k.clock,
+            c.value,
         ),
         Kind::Waking => kernel_wake::wake(
-            &k.base, &mut k.ready, &mut k.delayed, &k.held, &mut k.until, k.ceiling, k.clock,
+            &k.base,
+            &mut k.ready,
+            &mut k.delayed,
+            &k.held,
+            &mut k.until,
+            k.ceiling,
+            k.clock,
         ),
         Kind::Advancing => kernel_time::advance(&mut k.clock, c.value),
         Kind::Opening => {
-            kernel_ops::hold(&k.ready, &mut k.held, &mut k.way, POId(c.a), rules::FOR_OPEN)
+            kernel_ops::hold(
+                &k.ready,
+                &mut k.held,
+                &mut k.way,
+                POId(c.a),
+                rules::FOR_OPEN,
+            )
         }
         Kind::Entering => {
-            kernel_ops::enter(&mut k.ready, &mut k.held, &mut k.way, &mut k.waiter, POId(c.a), c.b)
+            kernel_ops::enter(
+                &mut k.ready,
+                &mut k.held,
+                &mut k.way,
+                &mut k.waiter,
+                POId(c.a),
+                c.b,
+            )
         }
         Kind::Ending(e) => {
             let serves = e.serves & (c.b == 1);
             kernel_close::end(
-                &k.base, &mut k.ready, &mut k.held, &mut k.way, k.ceiling, &mut k.waiter, POId(c.a), serves,
+                &k.base,
+                &mut k.ready,
+                &mut k.held,
+                &mut k.way,
+                k.ceiling,
+                &mut k.waiter,
+                POId(c.a),
+                serves,
             )
         }
     }
@@ -103,7 +143,8 @@ pub fn sound(k: &Kernel) -> bool
 {
     timed(&k.until);
     kernel_sound::tested(
-        &k.base, &k.ready, &k.delayed, &k.held, &k.way, &k.until, k.ceiling, k.waiter, k.clock, k.started,
+        &k.base, &k.ready, &k.delayed, &k.held, &k.way, &k.until, k.ceiling, k.waiter, k.clock,
+        k.started,
     )
 }
 

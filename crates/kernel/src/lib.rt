@@ -1,5 +1,5 @@
-// The kernel by value: its tables, the step, and the question "Wakes left". (The test of a saved state and
-// a step lend the tables: in_place.)
+// The kernel: its tables, the step and the test of a saved state, and the question "Wakes left". By value here, and
+// where a lent state lies in in_place.
 #![tactic(auto)]
 
 ghost use Rattle.std.specs.Prelude.{◌≡◌};
@@ -15,6 +15,7 @@ pub mod on_tables;
 pub use command::Answer;
 pub use kernel_checks::Command;
 pub use kernel_line::{POId, TaskID};
+use rules::Refusal;
 
 // Tables are indexed by the task 0..31 or by the object 0..7. A line ends at its first 0: idle is last in the ready
 // line, and never delayed.
@@ -46,7 +47,8 @@ pub struct Stepped {
     pub answer: Answer,
 }
 
-// The answer to "Wakes left".
+// The answer to "Wakes left": the number of the refusal, 0 for none; and the count, 0 where it is refused.
+// Kept (promise): two numbers, as document 01 answers (left_of); inside, the count is a Result (wakes_counted).
 #[derive(Clone, Copy, PartialEq, Eq)]
 pub struct Left {
     pub code: u8,
@@ -102,27 +104,33 @@ impl Kernel {
     pub fn wakes_left(self, t: TaskID) -> Left
         ensures { result ≡ left_of self t.0 }
     {
-        if !self.sound() {
-            return Left { code: 1, left: 0 };
+        match self.wakes_counted(t) {
+            Ok(left) => Left { code: 0, left },
+            Err(refusal) => Left {
+                code: refusal.number(),
+                left: 0,
+            },
         }
-        if t.0 == Kernel::IDLE.0 {
-            return Left { code: 4, left: 0 };
+    }
+
+    // The same count, or the refusal of the question.
+    fn wakes_counted(&self, t: TaskID) -> Result<u8, Refusal>
+        ensures { step.left_as result ≡ left_of self.now t.0 }
+    {
+        if !in_place::sound(self) {
+            return Err(Refusal::Shape);
         }
-        if Kernel::LAST_TASK.0 < t.0 {
-            return Left { code: 4, left: 0 };
+        if (t.0 == Kernel::IDLE.0) | (Kernel::LAST_TASK.0 < t.0) {
+            return Err(Refusal::Range);
         }
         if kernel_line::of_task(&self.base, t) == 0 {
-            return Left { code: 6, left: 0 };
+            return Err(Refusal::Missing);
         }
-        let delayed = self.delayed;
-        Left {
-            code: 0,
-            left: due_count(
-                kernel_line::lead_task(delayed, t),
-                kernel_line::time_of(&self.until, t),
-                self.clock,
-            ),
-        }
+        Ok(due_count(
+            kernel_line::lead_task(self.delayed, t),
+            kernel_line::time_of(&self.until, t),
+            self.clock,
+        ))
     }
 }
 
@@ -130,9 +138,9 @@ impl Kernel {
 fn due_count(ahead: u8, time: u64, clock: u64) -> u8
     ensures { result ≡ step.due_count ahead time clock }
 {
-    numbers::choose(
-        (ahead < 32) & (time <= clock),
-        kernel_line::one_more(ahead),
-        0,
-    )
+    if (ahead < 32) & (time <= clock) {
+        ahead + 1
+    } else {
+        0
+    }
 }
