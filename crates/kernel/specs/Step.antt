@@ -23,27 +23,6 @@ use Rattle.kernel.specs.View.{view}
 use Rattle.kernel.specs.Public.{answer_of, running_of}
 pub use Rattle.kernel.specs.Lent.{tables}
 
--- ---- the tables with other parts
-abbrev pub with_ready : Kernel → List ℕ → Kernel
-with_ready k l = tables k.base l k.delayed k.held k.way k.until k.ceiling k.waiter k.clock
-    k.started
-
-abbrev pub with_delay : Kernel → List ℕ → List ℕ → List ℕ → Kernel
-with_delay k l d u = tables k.base l d k.held k.way u k.ceiling k.waiter k.clock k.started
-
-abbrev pub with_hands : Kernel → List ℕ → List ℕ → List ℕ → Kernel
-with_hands k l h w = tables k.base l k.delayed h w k.until k.ceiling k.waiter k.clock k.started
-
-abbrev pub with_waiter : Kernel → List ℕ → List ℕ → Kernel
-with_waiter k l q = tables k.base l k.delayed k.held k.way k.until k.ceiling q k.clock k.started
-
-abbrev pub with_set_up : Kernel → List ℕ → List ℕ → List ℕ → Bool → Kernel
-with_set_up k b l o s = tables b l k.delayed k.held k.way k.until o k.waiter k.clock s
-
-abbrev pub with_clock : Kernel → ℕ → Kernel
-with_clock k n = tables k.base k.ready k.delayed k.held k.way k.until k.ceiling k.waiter n
-    k.started
-
 -- the front of the ready line, and a line with a task at the tail of its base
 abbrev pub runner_of : Kernel → ℕ
 runner_of k = runner_in k.ready
@@ -62,45 +41,50 @@ answered k t = record { next = k; answer = accepted (running_of k) t }
 unfoldable pub created_of : Kernel → ℕ → ℕ → Stepped
 created_of k t p =
     let b = set k.base t p in
-    answered (with_set_up k b (tailed b k.ceiling k.held p t k.ready) k.ceiling k.started) 0
+    answered (record k { base = b; ready = tailed b k.ceiling k.held p t k.ready }) 0
 
 unfoldable pub declared_of : Kernel → ℕ → ℕ → Stepped
-declared_of k o p = answered (with_set_up k k.base k.ready (set k.ceiling o p) k.started) 0
+declared_of k o p = answered (record k { ceiling = set k.ceiling o p }) 0
 
 unfoldable pub begun_of : Kernel → Stepped
-begun_of k = answered (with_set_up k k.base k.ready k.ceiling true) 0
+begun_of k = answered (record k { started = true }) 0
 
 unfoldable pub yielded_of : Kernel → Stepped
-yielded_of k = answered (with_ready k (to_tail_of k (runner_of k) (popped k.ready))) 0
+yielded_of k = answered (record k { ready = to_tail_of k (runner_of k) (popped k.ready) }) 0
 
 unfoldable pub slept_of : Kernel → ℕ → Stepped
 slept_of k v =
     let r = runner_of k in
-    answered (with_delay k (popped k.ready) (place (later k.until v) r k.delayed) (with_time k.until r v)) 0
+    answered
+    (record k { ready = popped k.ready; delayed = place (later k.until v) r k.delayed; until = with_time k.until r v })
+    0
 
 unfoldable pub woken_of : Kernel → ℕ → Stepped
-woken_of k t = answered (with_delay k (to_tail_of k t k.ready) (pop k.delayed) (with_time k.until t 0)) t
+woken_of k t =
+    answered (record k { ready = to_tail_of k t k.ready; delayed = pop k.delayed; until = with_time k.until t 0 }) t
 
 abbrev pub grown : ℕ → ℕ → ℕ
 grown clock n = cond (ltb (clock + n) (2 ^ 64)) (clock + n) clock
 
 unfoldable pub advanced_of : Kernel → ℕ → Stepped
-advanced_of k n = answered (with_clock k (grown k.clock n)) 0
+advanced_of k n = answered (record k { clock = grown k.clock n }) 0
 
 unfoldable pub held_of : Kernel → ℕ → ℕ → Stepped
-held_of k o w = answered (with_hands k k.ready (set k.held (runner_of k) o) (set k.way (runner_of k) w)) 0
+held_of k o w =
+    answered (record k { held = set k.held (runner_of k) o; way = set k.way (runner_of k) w }) 0
 
 unfoldable pub served_of : Kernel → ℕ → ℕ → Kernel
-served_of k o t = with_waiter k (to_tail_of k t k.ready) (set k.waiter o 0)
+served_of k o t = record k { ready = to_tail_of k t k.ready; waiter = set k.waiter o 0 }
 
 unfoldable pub closed_of : Kernel → ℕ → Stepped
 closed_of k t =
     let r = runner_of k in
     let l = closed_line k.base k.ceiling k.held k.ready in
-    answered (with_hands k l (set k.held r 0) (set k.way r 0)) t
+    answered (record k { ready = l; held = set k.held r 0; way = set k.way r 0 }) t
 
 unfoldable pub awaiting_of : Kernel → ℕ → Stepped
-awaiting_of k o = answered (with_waiter k (popped k.ready) (set k.waiter o (runner_of k))) 0
+awaiting_of k o =
+    answered (record k { ready = popped k.ready; waiter = set k.waiter o (runner_of k) }) 0
 
 -- whom a Wake wakes, and whom a close serves: 0 for nobody
 abbrev pub due_of : Kernel → ℕ
