@@ -13,14 +13,8 @@ use Rattle.kernel_line.specs.Tables.{place, pop, later, with_time}
 use Rattle.kernel_ready.specs.Ready.{runner_in, popped, to_tail, released_line}
 use Rattle.kernel_close.specs.Moves.{waits_in, closed_line}
 use Rattle.kernel.specs.declared.Kernel.{Kernel}
-use Rattle.kernel.specs.declared.Stepped.{Stepped}
-use Rattle.kernel.specs.Public.{Ends, running_of}
-use Rattle.kernel.specs.Step.{runner_of, accepted, carried_as, slept_of, yielded_of, advanced_of, woken_of, held_of, awaiting_of, served_of, closed_of, closing_of}
+use Rattle.kernel.specs.Step.{Carried, runner_of, carried_as, slept_of, yielded_of, advanced_of, woken_of, held_of, awaiting_of, served_of, closed_of, closing_of}
 use Rattle.kernel.specs.Step.{grown}
-
--- a state and a released task are the state and the answer of a step
-abbrev pub Carried : Kernel → ℕ → Stepped → Type 0
-Carried k t s = Ends k (accepted (running_of k) t) s
 
 -- a command of a kind is carried out as that kind is
 pub as_kind : (j k : Kind) (m : Kernel) (c : Command) → k ≡ j → (n : Kernel) (t : ℕ) → Carried n t (carried_as j m c) → Carried n t (carried_as k m c)

@@ -20,7 +20,7 @@ use Rattle.kernel.specs.declared.Stepped.{Stepped}
 use Rattle.kernel.specs.declared.Left.{Left}
 use Rattle.kernel.specs.declared.command.Answer.{Answer}
 use Rattle.kernel.specs.View.{view}
-use Rattle.kernel.specs.Public.{answer_of, running_of}
+use Rattle.kernel.specs.Public.{Ends, answer_of, running_of}
 pub use Rattle.kernel.specs.Lent.{tables}
 
 -- the front of the ready line, and a line with a task at the tail of its base
@@ -36,6 +36,10 @@ accepted x t = answer_of 0 x t
 
 abbrev pub answered : Kernel → ℕ → Stepped
 answered k t = record { next = k; answer = accepted (running_of k) t }
+
+-- a state and a released task are what an accepted command leaves
+abbrev pub Carried : Kernel → ℕ → Stepped → Type 0
+Carried k t s = Ends k (accepted (running_of k) t) s
 
 -- ---- the ops
 unfoldable pub created_of : Kernel → ℕ → ℕ → Stepped
@@ -58,6 +62,9 @@ slept_of k v =
     answered
     (record k { ready = popped k.ready; delayed = place (later k.until v) r k.delayed; until = with_time k.until r v })
     0
+
+abbrev pub delayed_of : Kernel → ℕ → Stepped
+delayed_of k v = cond (ltb k.clock v) (slept_of k v) (yielded_of k)
 
 unfoldable pub woken_of : Kernel → ℕ → Stepped
 woken_of k t =
@@ -86,6 +93,10 @@ unfoldable pub awaiting_of : Kernel → ℕ → Stepped
 awaiting_of k o =
     answered (record k { ready = popped k.ready; waiter = set k.waiter o (runner_of k) }) 0
 
+-- by the barrier: 1 where it is open
+abbrev pub entered_of : Kernel → ℕ → ℕ → Stepped
+entered_of k o b = cond (eqb b 1) (held_of k o for_entry) (awaiting_of k o)
+
 -- whom a Wake wakes, and whom a close serves: 0 for nobody
 abbrev pub due_of : Kernel → ℕ
 due_of k = due_in k.delayed k.until k.clock
@@ -107,11 +118,11 @@ carried_as NoKind k c = answered k 0
 carried_as Creating k c = created_of k c.a c.b
 carried_as Declaring k c = declared_of k c.a c.b
 carried_as Starting k c = begun_of k
-carried_as Delaying k c = cond (ltb k.clock c.value) (slept_of k c.value) (yielded_of k)
+carried_as Delaying k c = delayed_of k c.value
 carried_as Waking k c = wake_of k
 carried_as Advancing k c = advanced_of k c.value
 carried_as Opening k c = held_of k c.a for_open
-carried_as Entering k c = cond (eqb c.b 1) (held_of k c.a for_entry) (awaiting_of k c.a)
+carried_as Entering k c = entered_of k c.a c.b
 carried_as (Ending e) k c = closing_of k c.a (e.serves && opens c)
 
 -- the answer to a refused command

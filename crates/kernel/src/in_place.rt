@@ -40,43 +40,82 @@ pub fn running(k: &Kernel) -> TaskID
     kernel_ready::running(k.started, &k.ready)
 }
 
-// An accepted command, carried out: the released task, 0 for nobody.
+// The ops that are lent four tables or more, each as its row of specs/Step; the answer is the released task, 0 for
+// nobody.
+fn create(k: &mut Kernel, t: TaskID, p: u8) -> u8
+    ensures { step.Carried k.new result (step.created_of k.old t.0 p) }
+{
+    kernel_ops::create(&mut k.base, &mut k.ready, k.ceiling, &k.held, t, p)
+}
+
+fn delay(k: &mut Kernel, time: u64) -> u8
+    ensures { step.Carried k.new result (step.delayed_of k.old time) }
+{
+    kernel_time::delay(
+        &k.base,
+        &mut k.ready,
+        &mut k.delayed,
+        &k.held,
+        &mut k.until,
+        k.ceiling,
+        k.clock,
+        time,
+    )
+}
+
+fn wake(k: &mut Kernel) -> u8
+    ensures { step.Carried k.new result (step.wake_of k.old) }
+{
+    kernel_wake::wake(
+        &k.base,
+        &mut k.ready,
+        &mut k.delayed,
+        &k.held,
+        &mut k.until,
+        k.ceiling,
+        k.clock,
+    )
+}
+
+fn enter(k: &mut Kernel, o: POId, barrier: u8) -> u8
+    ensures { step.Carried k.new result (step.entered_of k.old o.0 barrier) }
+{
+    kernel_ops::enter(
+        &mut k.ready,
+        &mut k.held,
+        &mut k.way,
+        &mut k.waiter,
+        o,
+        barrier,
+    )
+}
+
+fn end(k: &mut Kernel, o: POId, serves: bool) -> u8
+    ensures { step.Carried k.new result (step.closing_of k.old o.0 serves) }
+{
+    kernel_close::end(
+        &k.base,
+        &mut k.ready,
+        &mut k.held,
+        &mut k.way,
+        k.ceiling,
+        &mut k.waiter,
+        o,
+        serves,
+    )
+}
+
+// An accepted command, carried out.
 fn carry(k: &mut Kernel, kind: Kind, c: Command) -> u8
-    ensures { Ends k.new (step.accepted (running_of k.new) result) (step.carried_as kind k.old (to_rules c)) }
+    ensures { step.Carried k.new result (step.carried_as kind k.old (to_rules c)) }
 {
     match kind {
         Kind::NoKind => 0,
-        Kind::Creating => {
-            kernel_ops::create(
-                &mut k.base,
-                &mut k.ready,
-                k.ceiling,
-                &k.held,
-                TaskID(c.a),
-                c.b,
-            )
-        }
+        Kind::Creating => create(k, TaskID(c.a), c.b),
         Kind::Declaring => kernel_ops::declare(&mut k.ceiling, POId(c.a), c.b),
         Kind::Starting => kernel_ops::begin(&mut k.started),
-        Kind::Delaying => kernel_time::delay(
-            &k.base,
-            &mut k.ready,
-            &mut k.delayed,
-            &k.held,
-            &mut k.until,
-            k.ceiling,
-            k.clock,
-            c.value,
-        ),
-        Kind::Waking => kernel_wake::wake(
-            &k.base,
-            &mut k.ready,
-            &mut k.delayed,
-            &k.held,
-            &mut k.until,
-            k.ceiling,
-            k.clock,
-        ),
+        Kind::Delaying => delay(k, c.value),
+        Kind::Waking => wake(k),
         Kind::Advancing => kernel_time::advance(&mut k.clock, c.value),
         Kind::Opening => {
             kernel_ops::hold(
@@ -87,29 +126,8 @@ fn carry(k: &mut Kernel, kind: Kind, c: Command) -> u8
                 rules::FOR_OPEN,
             )
         }
-        Kind::Entering => {
-            kernel_ops::enter(
-                &mut k.ready,
-                &mut k.held,
-                &mut k.way,
-                &mut k.waiter,
-                POId(c.a),
-                c.b,
-            )
-        }
-        Kind::Ending(e) => {
-            let serves = e.serves & (c.b == 1);
-            kernel_close::end(
-                &k.base,
-                &mut k.ready,
-                &mut k.held,
-                &mut k.way,
-                k.ceiling,
-                &mut k.waiter,
-                POId(c.a),
-                serves,
-            )
-        }
+        Kind::Entering => enter(k, POId(c.a), c.b),
+        Kind::Ending(e) => end(k, POId(c.a), e.serves & (c.b == 1)),
     }
 }
 
