@@ -1,31 +1,45 @@
 -- Laws of the loops' turns: a turn that keeps the record at an index, a turn that drops the byte there, and the end. What a pass comes to is the same before
 -- and after a turn. Assumes nothing.
-use Prim.Native.Nat.{ℕ, zero, suc, ◌+◌, ◌-◌, ◌≤◌, ◌<◌}
+use Prim.Native.Nat.{ℕ, zero, suc, ◌+◌, ◌-◌, ◌*◌, ◌≤◌, ◌<◌}
 use native.Mathlib.Omega.{arith}
 use native.Mathlib.Numerals.{add-one}
 use mathlib.Core.Path.{◌≡◌, refl, sym, ap, ◌∙◌}
-use mathlib.Core.Bool.{Bool, true, false, ◌||◌}
+use mathlib.Core.Bool.{Bool, true, false, cond, ◌||◌}
 use mathlib.Core.List.{List, [], ◌∷◌, ◌++◌}
 use borrow.Author.Tests.{le-leb}
+use mir.Val.{bool_byte}
+use lib.Dec.{ltb}
 use lib.ListN.{length, take, drop, get_or, replicate, length-append, length-drop}
 use lib.Seq.{sets, length-take-le, drop-drop, drop-cons}
 use Rattle.record.specs.Form.{is_command}
+use Rattle.std.specs.Prelude.{Option, Some, None}
+use Rattle.salvage_marks.specs.declared.Stretch.{Stretch}
 use Rattle.salvage_marks.specs.Torn.{makes, pick, closed, cells}
-use Rattle.salvage_marks.specs.Pieces.{ahead, ended, begun}
-use Rattle.salvage_marks.proofs.Marks.{pick_trues, closed_one, closed_no, closed_join, cells_join}
+use Rattle.salvage_marks.specs.Pieces.{ahead, ended, begun, stretch_of}
+use Rattle.salvage_marks.proofs.Marks.{pick_trues, closed_join, cells_join}
 use Rattle.salvage_marks.proofs.Ahead.{ahead_keep, ahead_drop, ahead_short, ended_trues, begun_trues, closed_cells}
+use Rattle.salvage_marks.proofs.Chained.{one_closed}
 use Rattle.salvaging.specs.declared.Passed.{Passed}
 use Rattle.salvaging.specs.Walk.{to_go, passed_on}
 use Rattle.salvaging.proofs.Stores.{sets_join}
 
 -- a stretch as numbers
-pub cells_one : (from at : ℕ) → from < at → cells (closed from at []) ≡ from ∷ (at - from) ∷ []
+pub cells_some : (from at : ℕ) {o : Option Stretch} {x : Stretch} → o ≡ stretch_of from at → o ≡ Some x
+    → cells (closed from at []) ≡ x.first ∷ x.size ∷ []
 unfolding cells
-cells_one from at o = rw (closed_one from at [] o)
+cells_some from at e s = rw (← one_closed from at, ← e, s)
 
-pub cells_no : (from at : ℕ) → at ≤ from → cells (closed from at []) ≡ []
+pub cells_none : (from at : ℕ) {o : Option Stretch} → o ≡ stretch_of from at → o ≡ None → cells (closed from at []) ≡ []
 unfolding cells
-cells_no from at o = rw (closed_no from at [] o)
+cells_none from at e s = rw (← one_closed from at, ← e, s)
+
+pub cells_many : (from at : ℕ) → 2 * bool_byte (ltb from at) ≡ length (cells (closed from at []))
+unfolding closed cells
+cells_many from at = go (ltb from at)
+  where
+    go : (b : Bool) → 2 * bool_byte b ≡ length (cells (cond {A = List Stretch} b (record { first = from; size = at - from } ∷ []) []))
+    go true = refl
+    go false = refl
 
 pub cells_two : (from at : ℕ) → length (cells (closed from at [])) ≤ 2
 unfolding cells

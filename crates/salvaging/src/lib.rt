@@ -13,10 +13,8 @@ ghost use Rattle.salvaging.specs.Walk as walk;
 
 use record::RECORD_BYTES;
 use record_bytes::{is_command, is_header};
+use rules::Refusal;
 pub use salvage_marks::{Fed, Salvaged, Stretch, Torn};
-
-// No place is behind this one: a tape has fewer than 2^64 bytes.
-const LAST_PLACE: u64 = 18446744073709551615;
 
 // What a pass over bytes comes to: how many are decided, where the open stretch begins, the bytes kept and the numbers
 // listed.
@@ -29,12 +27,6 @@ struct Passed {
 }
 
 // ---- One record, one stretch
-
-fn least(x: u64, y: u64) -> u64
-    ensures { result ≡ pieces.least x y }
-{
-    if y < x { y } else { x }
-}
 
 // Whether a header stands at byte 0 is asked once, before the loops: these look for command records only, by a test
 // that is small enough to stand inside them.
@@ -53,48 +45,41 @@ fn head(buf: &[u8], place: usize) -> usize
     0
 }
 
-// 16 bytes, all read before any is written: so that they are copied as one, where the compiler cannot see that the
-// two tapes lie apart.
-fn sixteen(p: &[u8]) -> [u8; 16]
-    requires { length p.now ≡ 16 }
-    ensures { result ≡ p.now }
-{
-    [
-        p[0], p[1], p[2], p[3], p[4], p[5], p[6], p[7], p[8], p[9], p[10], p[11], p[12], p[13],
-        p[14], p[15],
-    ]
-}
-
 // The record at an index goes to the new tape.
 fn keep(out: &mut [u8], w: usize, buf: &[u8], at: usize)
     requires { (w + 16 ≤ length out.old) × (at + 16 ≤ length buf.now) }
     ensures { out.new ≡ sets out.old w (take 16 (drop at buf.now)) }
 {
-    let end = at + RECORD_BYTES;
-    let p = sixteen(&buf[at..end]);
-    let mut i: usize = 0;
-    while i < RECORD_BYTES {
-        out[w + i] = p[i];
-        i += 1;
-    }
+    out[w..w + RECORD_BYTES].copy_from_slice(&buf[at..at + RECORD_BYTES]);
 }
 
 // The header goes to the new tape: 16 bytes, or none.
 fn keep_head(out: &mut [u8], buf: &[u8], size: usize)
-    requires { (size ≤ 16) × (size % 16 ≡ 0) × (size ≤ length out.old) × (size ≤ length buf.now) }
+    requires { (size ≤ length out.old) × (size ≤ length buf.now) }
     ensures { out.new ≡ sets out.old 0 (take size buf.now) }
 {
-    if size != RECORD_BYTES {
-        return;
+    out[..size].copy_from_slice(&buf[..size]);
+}
+
+// The stretch from a place up to another, if it has a byte.
+fn stretch(from: u64, at: u64) -> Option<Stretch>
+    ensures { result ≡ pieces.stretch_of from at }
+{
+    if from < at {
+        Some(Stretch {
+            first: from,
+            size: at - from,
+        })
+    } else {
+        None
     }
-    keep(out, 0, buf, 0);
 }
 
 // How many numbers list a stretch: none for an empty one.
 fn numbers(from: usize, at: usize) -> usize
     ensures { result ≡ length (torn.cells (torn.closed from at [])) }
 {
-    if from < at { 2 } else { 0 }
+    2 * usize::from(from < at)
 }
 
 // Lists a stretch that is not empty; the index behind it.
@@ -103,13 +88,14 @@ fn list_one(list: &mut [u64], j: usize, from: usize, at: usize) -> usize
     ensures listed { list.new ≡ sets list.old j (torn.cells (torn.closed from at [])) }
     ensures behind { result ≡ j + length (torn.cells (torn.closed from at [])) }
 {
-    if from < at {
-        list[j] = from as u64;
-        let k = j + 1;
-        list[k] = (at - from) as u64;
-        return j + 2;
+    match stretch(from as u64, at as u64) {
+        Some(x) => {
+            list[j] = x.first;
+            list[j + 1] = x.size;
+            j + 2
+        }
+        None => j,
     }
-    j
 }
 
 // ---- The two loops
@@ -244,33 +230,26 @@ pub fn at_first() -> Torn
     }
 }
 
-fn refused(t: Torn) -> Fed
-    ensures { result ≡ record { code = 16; torn = t; done = 0; kept = 0; cells = 0 } }
-{
-    Fed {
-        code: 16,
-        torn: t,
-        done: 0,
-        kept: 0,
-        cells: 0,
-    }
-}
-
 // A piece more: `buf` is the held bytes and the piece behind them. What is kept of it stands at the front of `out`, the
 // stretches that ended at the front of `list`; what `buf` holds behind `done` the caller puts in front of its next
-// piece. Answers 16 where that does not fit or a place would pass 2^64; then nothing is written.
-pub fn feed(t: Torn, buf: &[u8], out: &mut [u8], list: &mut [u64]) -> Fed
+// piece. It is refused where that does not fit or a place would pass 2^64; then nothing is written.
+pub fn feed(
+    t: Torn,
+    buf: &[u8],
+    out: &mut [u8],
+    list: &mut [u64],
+) -> Result<Fed, Refusal>
     ensures { pieces.FedTo t buf.now out.old list.old result out.new
         list.new }
 {
-    if LAST_PLACE - t.place < buf.len() as u64 {
-        return refused(t);
+    if u64::MAX - t.place < buf.len() as u64 {
+        return Err(Refusal::Room);
     }
     let place = t.place as usize;
-    let begin = least(t.from, t.place) as usize;
+    let begin = t.from.min(t.place) as usize;
     let size = head(buf, place);
     if !holds(buf, place, begin, size, out.len(), list.len()) {
-        return refused(t);
+        return Err(Refusal::Room);
     }
     let p = put(buf, place, begin, size, out, list);
     let torn = Torn {
@@ -278,13 +257,12 @@ pub fn feed(t: Torn, buf: &[u8], out: &mut [u8], list: &mut [u64]) -> Fed
         from: p.from as u64,
         headed: t.headed | (size == RECORD_BYTES),
     };
-    Fed {
-        code: 0,
+    Ok(Fed {
         torn,
         done: p.done,
         kept: p.kept,
         cells: p.cells,
-    }
+    })
 }
 
 // Moves the bytes of a buffer from `done` up to `n` to its front; how many they are. Where there are none such, nothing
@@ -298,53 +276,28 @@ pub fn move_down(buf: &mut [u8], done: usize, n: usize) -> usize
     if buf.len() < n {
         return 0;
     }
-    let size = n - done;
-    let mut i: usize = 0;
-    while i < size {
-        buf[i] = buf[done + i];
-        i += 1;
-    }
-    size
+    buf.copy_within(done..n, 0);
+    n - done
 }
 
-// A sum of places, at most the last place.
-fn reach(place: u64, n: u64) -> u64
-    ensures { result ≡ pieces.least (place + n) pieces.last_place }
-{
-    if LAST_PLACE - place < n {
-        return LAST_PLACE;
-    }
-    place + n
-}
-
-// The end of the tape, with so many bytes held: the last dropped stretch, of size 0 where there is none.
-pub fn last_stretch(t: Torn, held: usize) -> Stretch
+// The end of the tape, with so many bytes held: the last dropped stretch, if there is one.
+pub fn last_stretch(t: Torn, held: usize) -> Option<Stretch>
     ensures { result ≡ pieces.last_of t held }
 {
-    let first = least(t.from, t.place);
-    let end = reach(t.place, held as u64);
-    Stretch {
-        first,
-        size: end - first,
-    }
+    let first = t.from.min(t.place);
+    let end = t.place.saturating_add(held as u64);
+    stretch(first, end)
 }
 
 // ---- A whole tape
 
-fn no_room() -> Salvaged
-    ensures { result ≡ record { code = 16; records = 0; stretches = 0; headed = false } }
-{
-    Salvaged {
-        code: 16,
-        records: 0,
-        stretches: 0,
-        headed: false,
-    }
-}
-
 // Writes the kept records to `out` and the dropped stretches to `list`, two numbers each, from their fronts on. What
-// they take is measured first: 16 where the one or the other does not fit, and then nothing is written.
-pub fn salvage(tape: &[u8], out: &mut [u8], list: &mut [u64]) -> Salvaged
+// they take is measured first: refused where the one or the other does not fit, and then nothing is written.
+pub fn salvage(
+    tape: &[u8],
+    out: &mut [u8],
+    list: &mut [u64],
+) -> Result<Salvaged, Refusal>
     ensures { torn.SalvagedTo tape.now out.old list.old result out.new
         list.new }
 {
@@ -352,17 +305,16 @@ pub fn salvage(tape: &[u8], out: &mut [u8], list: &mut [u64]) -> Salvaged
     let m = measure(tape, 0, 0, size);
     let last = numbers(m.from, tape.len());
     if out.len() < m.kept {
-        return no_room();
+        return Err(Refusal::Room);
     }
     if list.len() < m.cells + last {
-        return no_room();
+        return Err(Refusal::Room);
     }
     let p = put(tape, 0, 0, size, out, list);
     let cells = list_one(list, p.cells, p.from, tape.len());
-    Salvaged {
-        code: 0,
+    Ok(Salvaged {
         records: p.kept / RECORD_BYTES,
         stretches: cells / 2,
         headed: size == RECORD_BYTES,
-    }
+    })
 }

@@ -1,15 +1,10 @@
--- `keep_head` meets its contract: all 16 bytes, or none. Assumes nothing.
-use mathlib.Core.Path.{◌≡◌}
+-- `keep_head` meets its contract: the copied part is a run of stores. Assumes nothing.
 use native.Mathlib.Omega.{arith}
+use lib.Seq.{length-take-le}
+use Rattle.salvaging.proofs.Stores.{copied}
 use Rattle.salvaging.proofs.keep_head.Goals as goal
-
-pub returns-then-size-ne-RECORD_BYTES : goal.returns-then-size-ne-RECORD_BYTES
-returns-then-size-ne-RECORD_BYTES c = let z : c.args.size ≡ 0 = omega arith in rw z
-
-pub keep-requires : goal.keep-requires
-keep-requires c = (omega arith, omega arith)
 
 pub returns : goal.returns
 returns c =
-    let z : c.args.size ≡ 16 = omega arith in
-    rw z c.keep.ensures
+    let a = c.args in
+    copied a.out.now 0 a.size _ _ c.copy_from_slice.ensures.after (length-take-le a.size a.buf.now (omega arith)) (omega arith)

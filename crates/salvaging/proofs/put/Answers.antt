@@ -17,7 +17,7 @@ keep_head-requires c =
     let a = c.args in
     let s = starts a.place a.begin a.buf.now c.requires.1 a.size c.requires.0 in
     let e = ap (λ (x : Passed). x.kept) (start_passed a.place a.begin a.size a.buf.now s) in
-    (s.one.0, s.one.1, omega (arith, e, c.requires.3), s.within)
+    (omega (arith, e, c.requires.3), s.within)
 
 pub overflow_add-begin : goal.overflow_add-begin
 overflow_add-begin c =

@@ -24,7 +24,7 @@ measure-m-requires c = (c.head-size.ensures, omega arith, omega arith)
 pub returns-then-out-m : goal.returns-then-out-m
 returns-then-out-m c =
     let a = c.args in
-    no_salvage a.tape.now a.out.now a.list.now c.no_room.result c.no_room.ensures
+    no_salvage a.tape.now a.out.now a.list.now
     (no_bytes a.tape.now (length a.out.now) (length a.list.now) (omega (arith, ap (λ (x : Passed). x.kept) c.measure-m.ensures)))
 
 pub overflow_add-m : goal.overflow_add-m
@@ -36,7 +36,7 @@ pub returns-then-list-m : goal.returns-then-list-m
 returns-then-list-m c =
     let a = c.args in
     let l = c.numbers-last.ensures ∙ last_same a.tape.now c.measure-m.ensures in
-    no_salvage a.tape.now a.out.now a.list.now c.no_room-then-list-m.result c.no_room-then-list-m.ensures
+    no_salvage a.tape.now a.out.now a.list.now
     (no_numbers a.tape.now (length a.out.now) (length a.list.now) (omega (arith, ap (λ (x : Passed). x.cells) c.measure-m.ensures, l)))
 
 pub put-p-requires : goal.put-p-requires
