@@ -134,12 +134,7 @@ fn show(rt: &impl Print, tape: &[u8], out: &[u8], list: &[u64], g: Got) -> io::R
     let mut lines = [0u8; 35840];
     let n = put_list(&mut lines, cells);
     front(rt, &lines, n)?;
-    let m = put_last(
-        &mut lines,
-        (g.kept >> 4) as u64,
-        dropped as u64,
-        g.headed,
-    );
+    let m = put_last(&mut lines, (g.kept >> 4) as u64, dropped as u64, g.headed);
     front(rt, &lines, m)?;
     hex(rt, kept)
 }

@@ -233,12 +233,7 @@ pub fn at_first() -> Torn
 // A piece more: `buf` is the held bytes and the piece behind them. What is kept of it stands at the front of `out`, the
 // stretches that ended at the front of `list`; what `buf` holds behind `done` the caller puts in front of its next
 // piece. It is refused where that does not fit or a place would pass 2^64; then nothing is written.
-pub fn feed(
-    t: Torn,
-    buf: &[u8],
-    out: &mut [u8],
-    list: &mut [u64],
-) -> Result<Fed, Refusal>
+pub fn feed(t: Torn, buf: &[u8], out: &mut [u8], list: &mut [u64]) -> Result<Fed, Refusal>
     ensures { pieces.FedTo t buf.now out.old list.old result out.new
         list.new }
 {
@@ -293,11 +288,7 @@ pub fn last_stretch(t: Torn, held: usize) -> Option<Stretch>
 
 // Writes the kept records to `out` and the dropped stretches to `list`, two numbers each, from their fronts on. What
 // they take is measured first: refused where the one or the other does not fit, and then nothing is written.
-pub fn salvage(
-    tape: &[u8],
-    out: &mut [u8],
-    list: &mut [u64],
-) -> Result<Salvaged, Refusal>
+pub fn salvage(tape: &[u8], out: &mut [u8], list: &mut [u64]) -> Result<Salvaged, Refusal>
     ensures { torn.SalvagedTo tape.now out.old list.old result out.new
         list.new }
 {
