@@ -20,7 +20,7 @@ use Rattle.salvage_marks.proofs.Ahead.{ahead_few, pick_few, few_cells}
 use Rattle.salvage_marks.proofs.Chained.{one_kept, one_dropped}
 use Rattle.salvaging.specs.declared.Passed.{Passed}
 use Rattle.salvaging.specs.Walk.{marked_at, passed_of}
-use Rattle.salvaging.proofs.Stores.{sets_join}
+use Rattle.salvaging.specs.Lent.{sets_join}
 use Rattle.salvaging.proofs.Starts.{Starts}
 
 -- no more bytes are decided than were seen

@@ -18,7 +18,7 @@ use Rattle.salvage_marks.proofs.Ahead.{ahead_keep, ended_trues, begun_trues, pic
 use Rattle.salvage_marks.proofs.Reader.{headed_made, not_headed}
 use Rattle.salvaging.specs.declared.Passed.{Passed}
 use Rattle.salvaging.specs.Walk.{head_size, marked_at, passed_of, to_go, passed_on}
-use Rattle.salvaging.proofs.Stores.{sets_join}
+use Rattle.salvaging.specs.Lent.{sets_join}
 
 -- ---- how long the header is
 

@@ -1,15 +1,11 @@
--- Laws of `sets`, a run of stores: one behind another is one run, and a copy is one. Assumes nothing.
-use Prim.Native.Nat.{ℕ, suc, ◌+◌, ◌-◌, ◌≤◌}
+-- A copy over a part of a buffer, or within it, is a run of stores. Assumes nothing.
+use Prim.Native.Nat.{ℕ, ◌+◌, ◌-◌, ◌≤◌}
 use native.Mathlib.Omega.{arith}
 use mathlib.Core.Path.{◌≡◌, refl, sym, ◌∙◌}
-use mathlib.Core.List.{List, [], ◌∷◌, ◌++◌, append_assoc}
+use mathlib.Core.List.{List, append_assoc}
 use borrow.Rule.Slice.PartMut.{put_mid}
 use lib.ListN.{length, take, drop, length-drop}
 use lib.Seq.{sets, sets-eq, paste, length-take-le, drop-drop}
-
-pub sets_join : (s : List ℕ) (i : ℕ) (p q : List ℕ) → sets s i (p ++ q) ≡ sets (sets s i p) (i + length p) q
-sets_join s i [] q = let z : i + 0 ≡ i = omega arith in rw z
-sets_join s i (x ∷ p) q = let z : suc i + length p ≡ i + suc (length p) = omega arith in sets_join _ (suc i) p q ∙ rw z
 
 -- what a copy over a part of a buffer leaves, and a copy within one, as stores
 pub copied : (s : List ℕ) (i k : ℕ) (p q : List ℕ) → p ≡ q → length q ≡ k → i + k ≤ length s → put_mid i k s p ≡ sets s i q
