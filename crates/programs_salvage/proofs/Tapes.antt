@@ -11,7 +11,6 @@ use lib.ListN.{length, length-append, length-drop, drop_of_length-le}
 use lib.Seq.{sets, sets-eq, take-length}
 use Rattle.programs_flow.specs.Loops.{behind, texts}
 use Rattle.salvage_marks.specs.declared.Torn.{Torn}
-use Rattle.salvage_marks.specs.declared.Fed.{Fed}
 use Rattle.salvage_marks.specs.declared.Stretch.{Stretch}
 use Rattle.std.specs.Prelude.{Ok}
 use Rattle.salvage_marks.specs.Torn.{kept, dropped, found, headed, cells, total}
