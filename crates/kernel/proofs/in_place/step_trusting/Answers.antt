@@ -1,4 +1,4 @@
--- `step_trusting` is stepped_of on the tables: a refused command ends as Ends says, and an accepted one is carried out. Assumes nothing.
+-- `step_trusting` is stepped_of: a refused command ends as Ends says, and an accepted one is carried out. Assumes nothing.
 use mathlib.Core.Path.{◌≡◌, ap, ◌∙◌}
 use Rattle.rules.specs.Machine.{Command}
 use Rattle.rules.specs.Kinds.{kind}
@@ -8,7 +8,7 @@ use Rattle.kernel.specs.Public.{to_rules}
 use Rattle.kernel.proofs.Ends.{shown_of, refused_end, accepted_end}
 use Rattle.kernel.proofs.in_place.step_trusting.Goals as goal
 
--- (k: the lent tables; asked: the command; found: the number that the checks found is the rules'.)
+-- (asked: the command; found: the number that the checks found is the rules'.)
 pub returns-then-code-ne0 : goal.returns-then-code-ne0
 returns-then-code-ne0 c =
     let k = c.args.k.now in

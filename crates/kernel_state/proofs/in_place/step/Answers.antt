@@ -9,7 +9,7 @@ pub returns-then-not-pending_sound : goal.returns-then-not-pending_sound
 returns-then-not-pending_sound c =
     let s = c.args.s.now in
     let z = step_unsound s.kernel s.pending (to_rules c.args.c) (sym c.pending_sound.ensures ∙ c.if-not-pending_sound.true) in
-    (ap (λ (r : Stepped). r.next) z, ap (λ (r : Stepped). r.answer) z)
+    (ap (λ (r : Stepped). r.next) z, rw c.number.ensures (ap (λ (r : Stepped). r.answer) z))
 
 pub returns : goal.returns
 returns c =
