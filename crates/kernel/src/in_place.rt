@@ -138,14 +138,16 @@ pub fn step_trusting(k: &mut Kernel, c: Command) -> Answer
     ensures { Ends k.new result (step.stepped_of k.old (to_rules c)) }
 {
     let kind = c.kind();
-    let code = kernel_checks::refusal(
+    let checked = kernel_checks::checked(
         &k.base, &k.ready, &k.held, &k.way, k.ceiling, k.waiter, k.clock, k.started, kind, c,
     );
-    if code != 0 {
-        return refused(code, running(k));
+    match checked {
+        Err(refusal) => refused(refusal.number(), running(k)),
+        Ok(()) => {
+            let released = carry(k, kind, c);
+            accepted(running(k), released)
+        }
     }
-    let released = carry(k, kind, c);
-    accepted(running(k), released)
 }
 
 // What the type says of the times, told to the logic, which learns from a read that each number there fits. It costs
