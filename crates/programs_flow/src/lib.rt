@@ -93,6 +93,7 @@ fn complain<E: Print>(errors: &E, why: Error, name: &[u8], what: &[u8]) {
 }
 
 // A status, and why.
+// Kept (promise): a status is its number, as the clauses of each program's `run` and of rvn_program_* have it.
 pub fn told<E: Print>(errors: &E, why: Error, status: u8, name: &[u8], what: &[u8]) -> u8
     ensures { result ≡ status }
 {

@@ -23,6 +23,7 @@ const PIECE: usize = 15;
 const LENT: usize = 65536;
 
 // Of all lines (0), or of the one that is asked for.
+#[derive(Drop)]
 struct Show {
     only: u64,
 }
