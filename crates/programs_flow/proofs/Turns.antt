@@ -12,7 +12,7 @@ use Rattle.programs_flow.specs.declared.State.{State}
 use Rattle.programs_flow.specs.declared.State.TheVariants.{GoesOn, Ended, ReadFailed, WriteFailed}
 use Rattle.programs_flow.specs.declared.Went.{Went}
 use Rattle.programs_flow.specs.Flow.{nothing_yet, goes_on, has_failed, Took, Wrote}
-use Rattle.programs_flow.specs.Loops.{Put, After, Text, behind, texts, NoneEmpty, all_turns, Fed, Turned, Over, Looped, Concluded, Whole, Ran}
+use Rattle.programs_flow.specs.Loops.{Put, After, Text, behind, texts, NoneEmpty, Fed, Turned, Over, Looped, Concluded, Whole, Ran}
 
 -- ---- tests
 

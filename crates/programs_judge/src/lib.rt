@@ -80,11 +80,7 @@ impl Program<PIECE, LENT> for Judging {
 }
 
 // The judgement of all that was read, and how the work stands behind its report.
-fn work<R: Read, W: Write, E: Print>(
-    from: &mut R,
-    output: &mut W,
-    errors: &E,
-) -> (Judgement, Went)
+fn work<R: Read, W: Write, E: Print>(from: &mut R, output: &mut W, errors: &E) -> (Judgement, Went)
     ensures { Judged result.0 result.1 }
 {
     let (judge, went) = over_pieces(&Judging, from, output, errors);

@@ -2,22 +2,22 @@
 use Prim.Native.Nat.{ℕ, ◌+◌, ◌≤◌}
 use native.Mathlib.Omega.{arith}
 use mathlib.Core.Bool.{Bool, true, false, cond}
-use mathlib.Core.Path.{◌≡◌, refl, ap, sym, subst, ◌∙◌}
+use mathlib.Core.Path.{◌≡◌, refl, ap, sym, subst}
 use mathlib.Core.List.{List}
 use mathlib.Core.Logic.{inl, inr}
-use borrow.Author.Tests.{eqb-true, leb-true}
-use lib.Dec.{eqb, leb}
+use borrow.Author.Tests.{leb-true}
+use lib.Dec.{leb}
 use lib.ListN.{length}
 use lib.Seq.{sets, length-sets, length-take-le}
 use Rattle.decimal.specs.Buffer.{contents_after, place_after, InFront}
 use Rattle.programs_flow.specs.declared.Went.{Went}
-use Rattle.programs_flow.specs.Flow.{where_done}
-use Rattle.programs_salvage.specs.Work.{AllTaken, Salvaged, NamedOrFailed, DoneRefusedFailed}
+use Rattle.programs_flow.specs.Flow.{has_failed, where_done}
+use Rattle.programs_salvage.specs.Work.{Salvaged, NamedOrFailed, DoneRefusedFailed}
 
 pub still : (b : Bool) (w r : Went) → r ≡ where_done b w → Salvaged w → Salvaged r
 unfolding where_done
 still true w r e s = subst Salvaged (sym e) s
-still false w r e s = let k = ap (λ (x : Went). x.kind) e in inr (inl (omega (arith, k)))
+still false w r e s = inr (inl (ap (λ (x : Went). has_failed x.state) e))
 
 -- a status that is 3, or 2
 pub failed_so : {r : ℕ} → r ≡ 3 → DoneRefusedFailed r
@@ -29,11 +29,6 @@ refused_so e = inr (inl e)
 pub named_so : (w : Went) {r : ℕ} → NamedOrFailed w r → DoneRefusedFailed r
 named_so w (inl (e, a)) = inl e
 named_so w (inr e) = failed_so e
-
-pub taken : (b : Bool) (w : Went) → b ≡ eqb w.kind 1 → b ≡ true → Salvaged w → AllTaken w
-taken b w e t (inl a) = a
-taken b w e t (inr (inl f)) = let k = eqb-true w.kind 1 (sym e ∙ t) in absurd (omega (arith, k, f))
-taken b w e t (inr (inr z)) = let k = eqb-true w.kind 1 (sym e ∙ t) in absurd (omega (arith, k, z))
 
 -- ---- a name with a text put behind it
 

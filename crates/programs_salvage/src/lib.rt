@@ -13,7 +13,7 @@ ghost use Rattle.std.specs.Prelude.{◌≡◌};
 ghost use Rattle.decimal.specs.Buffer.{InFront};
 ghost use Rattle.programs_salvage.specs.Work.{AllTaken, Salvaged, NamedOrFailed, DoneRefusedFailed};
 
-use programs_flow::{Went, checked, has_ended, not_written, refused, told};
+use programs_flow::{Went, checked, not_written, refused, told};
 use salvaging::Torn;
 use std::fs::{File, OpenOptions};
 use std::io::{IsTerminal, Print, Write};
@@ -52,7 +52,7 @@ fn made_safe<E: Print>(w: Went, errors: &E, to: File, part: &str) -> Went
     requires { Salvaged w }
     ensures { Salvaged result }
 {
-    if !has_ended(w) {
+    if !w.has_ended() {
         return w;
     }
     checked(
@@ -84,7 +84,7 @@ fn give_name<R: std::rt::Files<File = File>, E: Print>(
         part.as_bytes(),
         b" could not be renamed",
     );
-    if has_ended(named) {
+    if named.has_ended() {
         return named;
     }
     if let Err(why) = fs::remove_file(rt, new) {
@@ -146,10 +146,10 @@ fn finish<R: std::rt::Files<File = File>, E: Print>(
     requires { Salvaged w }
     ensures { NamedOrFailed w result }
 {
-    if !has_ended(w) {
+    if !w.has_ended() {
         return removed(rt, errors, part);
     }
-    if !has_ended(give_name(w, rt, errors, new, part)) {
+    if !give_name(w, rt, errors, new, part).has_ended() {
         return removed(rt, errors, part);
     }
     sync_folder(rt, new);

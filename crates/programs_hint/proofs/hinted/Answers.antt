@@ -1,5 +1,5 @@
 -- Given before, given now, or not (proofs/Returns).
-use Rattle.std.proofs.Common.{rules, ◌∙◌, sym}
+use Rattle.std.proofs.Common.{rules, ◌∙◌}
 use Rattle.programs_hint.proofs.Returns.{found}
 use Rattle.programs_hint.proofs.hinted.Goals as goal
 
