@@ -7,8 +7,8 @@ ghost use Rattle.programs_flow.specs.Loops as loops;
 use crate::{Went, read_piece, write_whole};
 use std::io::{Print, Read, Write};
 
-// A program that reads at most N bytes at a time, and prints into a buffer of M: where that has so much room, all that
-// it prints at once stands at the front.
+// A program that reads its input in pieces of at most N bytes, and prints into a buffer of M bytes: all that it prints
+// at once has room there.
 pub trait Program<const N: usize, const M: usize> {
     // Where it stands between two pieces.
     type Stand: Copy;
@@ -43,6 +43,7 @@ pub trait Program<const N: usize, const M: usize> {
             × IsPrefixLen result.1 out.new };
 
     // What is printed at the end of the input, where nothing has failed.
+    // Kept (plain): input, output and errors do not always travel together: here no input is lent.
     fn conclude<W: Write, E: Print>(
         &self,
         output: &mut W,
