@@ -18,39 +18,40 @@ use std::process::ExitCode;
 use std::rt::Env;
 
 // Each program's buffers stand on the stack only where it runs: none of the five is inlined.
+// Kept (promise): the five names, each with what its program promises.
 #[inline(never)]
 pub fn rvn_program_walk(rt: &HostRuntime) -> u32
     ensures { DoneOrFailed result }
 {
-    programs_walk::run(&mut rt.stdin(), &mut rt.stdout(), &rt.stderr()) as u32
+    u32::from(programs_walk::run(&mut rt.stdin(), &mut rt.stdout(), &rt.stderr()))
 }
 
 #[inline(never)]
 pub fn rvn_program_draw(rt: &HostRuntime) -> u32
     ensures { DoneOrFailed result }
 {
-    programs_draw::run(&mut rt.stdin(), &mut rt.stdout(), &rt.stderr()) as u32
+    u32::from(programs_draw::run(&mut rt.stdin(), &mut rt.stdout(), &rt.stderr()))
 }
 
 #[inline(never)]
 pub fn rvn_program_judge(rt: &HostRuntime) -> u32
     ensures { JudgedOrFailed result }
 {
-    programs_judge::run(&mut rt.stdin(), &mut rt.stdout(), &rt.stderr()) as u32
+    u32::from(programs_judge::run(&mut rt.stdin(), &mut rt.stdout(), &rt.stderr()))
 }
 
 #[inline(never)]
 pub fn rvn_program_salvage(rt: &HostRuntime) -> u32
     ensures { DoneRefusedFailed result }
 {
-    programs_salvage::run(rt, &mut rt.stdout(), &rt.stderr()) as u32
+    u32::from(programs_salvage::run(rt, &mut rt.stdout(), &rt.stderr()))
 }
 
 #[inline(never)]
 pub fn rvn_program_show(rt: &HostRuntime) -> u32
     ensures { show.DoneRefusedFailed result }
 {
-    programs_show::run_asked(rt, &mut rt.stdin(), &mut rt.stdout(), &rt.stderr()) as u32
+    u32::from(programs_show::run_asked(rt, &mut rt.stdin(), &mut rt.stdout(), &rt.stderr()))
 }
 
 // The first word of the command line says which program runs. It answers that program's status.

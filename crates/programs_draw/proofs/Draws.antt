@@ -1,7 +1,7 @@
 -- The loop of draw that makes the draws which are left: what holds at each turn, and that all are made where no write failed. Assumes nothing.
 use Prim.Native.Nat.{ℕ, zero, suc, ◌+◌, ◌≤◌, ◌<◌}
 use native.Mathlib.Omega.{arith}
-use mathlib.Core.Bool.{Bool, true, false, ◌&&◌}
+use mathlib.Core.Bool.{Bool, true, false, ◌&&◌, false≢true}
 use mathlib.Core.Path.{◌≡◌, refl, ap, sym, subst, ◌∙◌}
 use mathlib.Core.List.{List, [], ◌++◌}
 use mathlib.Core.Logic.{◌⊎◌, inl, inr, ⊎_elim}
@@ -9,14 +9,14 @@ use borrow.Author.Tests.{eqb-true, leb-true, leb-false, eq-eqb}
 use lib.Dec.{eqb, leb}
 use lib.ListN.{length, take, length-append}
 use Rattle.programs_flow.specs.declared.Went.{Went}
-use Rattle.programs_flow.specs.Flow.{Took, Wrote}
+use Rattle.programs_flow.specs.Flow.{has_failed, Took, Wrote}
 use Rattle.rules.proofs.Tests.{both_true}
 use Rattle.session_stage.specs.declared.DrawRun.{DrawRun}
 use Rattle.session_stage.specs.Stage.{Moved, not_moved}
 use Rattle.session_draw.specs.Draw.{some_behind, some_text, drawn_next, text_of}
 use Rattle.programs_flow.specs.Loops.{Put, Concluded}
 use Rattle.programs_draw.specs.Sizes.{draw_lot}
-use Rattle.programs_flow.proofs.Turns.{took_text}
+use Rattle.programs_flow.proofs.Turns.{took_text, write_failed}
 
 -- ---- draws
 
@@ -98,48 +98,45 @@ text_more (suc n) m d =
 pub record Drawing (d e : DrawRun) (was went : Went) : Type 0 where
   pub draws : ℕ
   pub state : e ≡ some_behind draws d
-  pub taken : Took (length (some_text draws d)) was.kind was went
-  pub stopped : 2 ≤ was.kind → went ≡ was
+  pub taken : Took (length (some_text draws d)) was.state was went
+  pub stopped : has_failed was.state ≡ true → went ≡ was
 
 pub none_drawn : (d : DrawRun) (was : Went) → Drawing d d was was
 unfolding some_behind some_text
 none_drawn d was = record { draws = 0; state = refl; taken = inl (refl, omega arith); stopped = λ _. refl }
 
 -- a lot more
-pub lot_drawn : (d e f : DrawRun) (was went next : Went) (at : ℕ) (out : List ℕ) → Drawing d e was went → went.kind ≤ 1 → f ≡ some_behind draw_lot e
-    → Put at out (some_text draw_lot e) → Wrote (length (take at out)) went next → Drawing d f was next
+pub lot_drawn : (d e f : DrawRun) (was went next : Went) (at : ℕ) (out : List ℕ) → Drawing d e was went → has_failed went.state ≡ false
+    → f ≡ some_behind draw_lot e → Put at out (some_text draw_lot e) → Wrote (length (take at out)) went next → Drawing d f was next
 lot_drawn d e f was went next at out r on s p w =
     record {
       draws = r.draws + draw_lot;
       state = s ∙ ap (some_behind draw_lot) r.state ∙ sym (some_more r.draws draw_lot d);
-      taken = more r.taken (took_text (some_text draw_lot e) out at went.kind went next p w.1);
-      stopped = λ o. let k = ap (λ (x : Went). x.kind) (r.stopped o) in absurd (omega (arith, k, on, o));
+      taken = more r.taken (took_text (some_text draw_lot e) out at went.state went next p w.1);
+      stopped = λ o. absurd (false≢true (sym on ∙ ap (λ (x : Went). has_failed x.state) (r.stopped o) ∙ o));
     }
   where
-    more : Took (length (some_text r.draws d)) was.kind was went → Took (length (some_text draw_lot e)) went.kind went next
-        → Took (length (some_text (r.draws + draw_lot) d)) was.kind was next
-    more (inr k) x = absurd (omega (arith, k, on))
+    more : Took (length (some_text r.draws d)) was.state was went → Took (length (some_text draw_lot e)) went.state went next
+        → Took (length (some_text (r.draws + draw_lot) d)) was.state was next
+    more (inr k) x = write_failed went.state on k
     more (inl (k, a)) (inr x) = inr x
     more (inl (k, a)) (inl (j, b)) =
         let l = ap (λ (x : DrawRun). length (some_text draw_lot x)) r.state in
         inl (j ∙ k, omega (arith, a, b, l, text_more r.draws draw_lot d))
 
 -- the end: a write failed, or no draw is to be made any more
-pub out_of_draws : (d e : DrawRun) (was went : Went) → Drawing d e was went → (2 ≤ went.kind) ⊎ ((went.kind ≤ 1) × DrawnOut e) → Concluded (some_text
-    d.left d) was went
-out_of_draws d e was went r why = go (leb 2 was.kind) refl
+pub out_of_draws : (d e : DrawRun) (was went : Went) → Drawing d e was went
+    → (has_failed went.state ≡ true) ⊎ ((has_failed went.state ≡ false) × DrawnOut e) → Concluded (some_text d.left d) was went
+out_of_draws d e was went r why = go (has_failed was.state) refl
   where
-    last : was.kind ≤ 1 → Took (length (some_text r.draws d)) was.kind was went → (2 ≤ went.kind) ⊎ ((went.kind ≤ 1) × DrawnOut e)
-        → Took (length (some_text d.left d)) was.kind was went
+    last : has_failed was.state ≡ false → Took (length (some_text r.draws d)) was.state was went
+        → (has_failed went.state ≡ true) ⊎ ((has_failed went.state ≡ false) × DrawnOut e) → Took (length (some_text d.left d)) was.state was went
     last o (inr k) x = inr k
-    last o (inl (k, a)) (inl f) = absurd (omega (arith, o, k, f))
+    last o (inl (k, a)) (inl f) = absurd (false≢true (sym o ∙ ap has_failed (sym k) ∙ f))
     last o (inl (k, a)) (inr (_, h)) =
         let l = ap length (all_drawn r.draws d (subst (λ (x : DrawRun). DrawnOut x) r.state h)) in
         inl (k, omega (arith, a, l))
 
-    go : (b : Bool) → leb 2 was.kind ≡ b → Concluded (some_text d.left d) was went
-    go true f = let o = leb-true 2 was.kind f in inl (o, r.stopped o)
-    go false f =
-        let x = leb-false 2 was.kind f in
-        let o : was.kind ≤ 1 = omega (arith, x) in
-        inr (o, last o r.taken why)
+    go : (b : Bool) → has_failed was.state ≡ b → Concluded (some_text d.left d) was went
+    go true f = inl (f, r.stopped f)
+    go false f = inr (f, last f r.taken why)

@@ -1,4 +1,3 @@
-pub mod Calls
 pub mod Single
 pub mod Rooms
 pub mod Turns

@@ -11,15 +11,15 @@ use denote.RattleType.{RattleType}
 use mir.Syntax.{Dict}
 use Rattle.std.specs.declared.io.Print.{Ghosts}
 use Rattle.one_answer.proofs.Law.{OneAnswer, one}
-use Rattle.programs_flow.specs.contracts.going
-use Rattle.programs_flow.specs.contracts.goes_on
-use Rattle.programs_flow.specs.contracts.has_failed
-use Rattle.programs_flow.specs.contracts.brought
-use Rattle.programs_flow.specs.contracts.status
+use Rattle.programs_flow.specs.contracts.Went.going
+use Rattle.programs_flow.specs.contracts.Went.goes_on
+use Rattle.programs_flow.specs.contracts.Went.has_failed
+use Rattle.programs_flow.specs.contracts.Went.brought
+use Rattle.programs_flow.specs.contracts.Went.status
 use Rattle.programs_flow.specs.contracts.told
 use Rattle.programs_flow.specs.contracts.refused
 use Rattle.programs_flow.specs.contracts.checked
-use Rattle.programs_flow.specs.contracts.has_ended
+use Rattle.programs_flow.specs.contracts.Went.has_ended
 use Rattle.programs_flow.specs.contracts.not_read
 use Rattle.programs_flow.specs.contracts.not_written
 

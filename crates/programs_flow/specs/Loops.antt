@@ -5,9 +5,10 @@
 -- These wrong programs meet all of it, and only runs refuse them (host/io.py, the stored cases). One reads twice and
 -- drops what the first read brought. One takes a failed read for the end of the input. One writes other bytes, as
 -- many as the text has. One answers another status than its work's: `run` is one line.
-use Rattle.std.specs.Prelude.{ℕ, ◌+◌, ◌≤◌, Bool, not, ◌≡◌, List, [], ◌∷◌, ◌++◌, ◌⊎◌, T, length, take}
+use Rattle.std.specs.Prelude.{ℕ, ◌+◌, ◌≤◌, Bool, true, false, not, ◌≡◌, ◌≢◌, List, [], ◌∷◌, ◌++◌, ◌⊎◌, T, length, take}
+use Rattle.programs_flow.specs.declared.State.TheVariants.{GoesOn, Ended, ReadFailed, WriteFailed}
 use Rattle.programs_flow.specs.declared.Went.{Went}
-use Rattle.programs_flow.specs.Flow.{Took}
+use Rattle.programs_flow.specs.Flow.{has_failed, Took}
 
 -- So many bytes stand at the front of a buffer, and they are this text.
 abbrev pub Put : ℕ → List ℕ → List ℕ → Type 0
@@ -46,11 +47,11 @@ all_turns = 18446744073709551615
 -- all of that was taken, or the write failed.
 abbrev pub Fed : {S : Type 0} → After S → Text S → S → S → Went → Went → List ℕ → List ℕ → Type 0
 Fed after text s t was went p out =
-    (1 ≤ length p) × (t ≡ after s p) × (take (length (text s p)) out ≡ text s p) × Took (length (text s p)) 0 was went
+    (1 ≤ length p) × (t ≡ after s p) × (take (length (text s p)) out ≡ text s p) × Took (length (text s p)) GoesOn was went
 
 -- A turn that has read nothing, because the input has ended or the read failed: t is s.
 abbrev pub Unfed : {S : Type 0} → S → S → Went → Went → Type 0
-Unfed s t was went = (t ≡ s) × (1 ≤ went.kind) × (went.kind ≤ 2) × (went.sent ≡ was.sent)
+Unfed s t was went = (t ≡ s) × ((went.state ≡ Ended) ⊎ (went.state ≡ ReadFailed)) × (went.sent ≡ was.sent)
 
 -- A turn: it has read the bytes at the front of the buffer, or nothing.
 abbrev pub Turned : {S : Type 0} → After S → Text S → S → S → Went → Went → List ℕ → List ℕ → Type 0
@@ -60,7 +61,7 @@ Turned after text s t was went buffer out =
 -- Why a loop reads no more: a read gave nothing, a read or a write failed, nothing more is wanted, or all turns are
 -- used up.
 abbrev pub Over : {S : Type 0} → (S → Bool) → S → List (List ℕ) → Went → Type 0
-Over wants t ps went = (1 ≤ went.kind) ⊎ T (not (wants t)) ⊎ (all_turns ≤ length ps)
+Over wants t ps went = (went.state ≢ GoesOn) ⊎ T (not (wants t)) ⊎ (all_turns ≤ length ps)
 
 -- A whole loop. (That the pieces are those that were read no contract can say.)
 pub record Looped {S : Type 0} (after : After S) (text : Text S) (wants : S → Bool) (s t : S) (was went : Went)
@@ -69,22 +70,30 @@ pub record Looped {S : Type 0} (after : After S) (text : Text S) (wants : S → 
   pub none_empty : NoneEmpty pieces
   pub state : t ≡ behind after s pieces
   -- all that is printed for them was taken, or a write failed
-  pub taken : (went.kind ≡ 3) ⊎ (went.sent ≡ was.sent + length (texts after text s pieces))
+  pub taken : (went.state ≡ WriteFailed) ⊎ (went.sent ≡ was.sent + length (texts after text s pieces))
   pub over : Over wants t pieces went
   -- where the work had stopped before the loop, nothing is read, and it stands as it stood
-  pub stopped : 1 ≤ was.kind → (pieces ≡ []) × (went ≡ was)
+  pub stopped : was.state ≢ GoesOn → (pieces ≡ []) × (went ≡ was)
 
 -- Behind a loop: where a read or a write had failed, nothing more is written. Else all of a last text was taken, or
 -- the write failed.
 abbrev pub Concluded : List ℕ → Went → Went → Type 0
-Concluded text was went = ((2 ≤ was.kind) × (went ≡ was)) ⊎ ((was.kind ≤ 1) × Took (length text) was.kind was went)
+Concluded text was went =
+    ((has_failed was.state ≡ true) × (went ≡ was))
+    ⊎ ((has_failed was.state ≡ false) × Took (length text) was.state was went)
 
 -- A whole run from the state s: a read or a write failed; or there are pieces, none of them empty, and as many bytes
 -- were taken as all that is printed of them has, from the header on.
 abbrev pub Whole : {S : Type 0} → After S → (S → Bool) → S → (List (List ℕ) → List ℕ) → Went → Type 0
 Whole after wants s all went =
-    (2 ≤ went.kind)
+    (has_failed went.state ≡ true)
     ⊎ ((ps : List (List ℕ)) × NoneEmpty ps × (went.sent ≡ length (all ps)) × Over wants (behind after s ps) ps went)
+
+-- The same with where it stands at the end: t is the state behind such pieces, whether or not something failed.
+abbrev pub Ran : {S : Type 0} → After S → (S → Bool) → S → (List (List ℕ) → List ℕ) → S → Went → Type 0
+Ran after wants s all t went =
+    (ps : List (List ℕ)) × NoneEmpty ps × (t ≡ behind after s ps)
+    × ((has_failed went.state ≡ true) ⊎ ((went.sent ≡ length (all ps)) × Over wants (behind after s ps) ps went))
 
 -- ---- what a program answers
 

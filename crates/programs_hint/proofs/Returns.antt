@@ -1,28 +1,16 @@
--- The loop that looks for a byte 13, at index i; and when a hint is given. Assumes nothing.
-use Prim.Native.Nat.{ℕ, ◌+◌, ◌≤◌, ◌<◌}
-use native.Mathlib.Numerals.{add-one}
-use mathlib.Core.Bool.{Bool, true, false, not, ◌||◌}
-use mathlib.Core.Path.{◌≡◌, sym}
-use mathlib.Core.List.{List}
-use borrow.Author.Tests.{eq-eqb, ne_eqb, not-true, not-false}
-use lib.ListN.{length, drop, get_or, drop_of_length-le}
-use lib.Seq.{drop-cons}
+-- A byte 13 stands in a piece where the test of `contains` finds one. Assumes nothing.
+use Rattle.std.proofs.Common.{◌≡◌, ℕ, Bool, true, false, List, [], ◌∷◌, ◌||◌, eqb, refl, ap, sym, ◌∙◌}
+use borrow.Author.Tests.{eqb-true, eqb-false, eq-eqb, ne_eqb}
+use Rattle.std.specs.List.{list_any}
 use Rattle.rules.specs.Line.{among}
 
-module _ (p : List ℕ) (i : ℕ) where
-  pub found : i < length p → get_or p i 0 ≡ 13 → among (drop i p) 13 ≡ true
-  found h e = rw (drop-cons p i 0 h, eq-eqb 13 (get_or p i 0) (sym e))
+either_way : (x y : ℕ) → eqb x y ≡ eqb y x
+either_way x y = go (eqb x y) refl
+  where
+    go : (b : Bool) → eqb x y ≡ b → b ≡ eqb y x
+    go true e = sym (eq-eqb y x (sym (eqb-true x y e)))
+    go false e = sym (ne_eqb y x (λ f. eqb-false x y e (sym f)))
 
-  pub passed : i < length p → (get_or p i 0 ≡ 13 → ⊥) → among (drop (i + 1) p) 13 ≡ among (drop i p) 13
-  passed h z = rw (add-one i, drop-cons p i 0 h, ne_eqb 13 (get_or p i 0) (λ e. z (sym e)))
-
-  pub none_left : length p ≤ i → among (drop i p) 13 ≡ false
-  none_left h = rw (drop_of_length-le p h)
-
--- a hint is given once: told before, told now, or not
-module _ (given here stands : Bool) (t : given ≡ false) (e : here ≡ stands) where
-  pub not_hinted : not here ≡ true → false ≡ (given || stands)
-  not_hinted n = rw (t, ← e, not-true here n)
-
-  pub newly_hinted : not here ≡ false → true ≡ (given || stands)
-  newly_hinted n = rw (t, ← e, not-false here n)
+pub found : (p : List ℕ) → list_any (λ y. eqb y 13) p ≡ among p 13
+found [] = refl
+found (x ∷ p) = ap (λ b. b || list_any (λ y. eqb y 13) p) (either_way x 13) ∙ ap (λ b. eqb 13 x || b) (found p)

@@ -1,6 +1,7 @@
 -- What judge does, as far as a contract can say it (crate programs_flow, specs/Loops), and what it answers.
-use Rattle.std.specs.Prelude.{ℕ, ◌≤◌, Bool, ◌≡◌, List, [], ◌⊎◌, length}
+use Rattle.std.specs.Prelude.{ℕ, Bool, true, ◌≡◌, List, [], ◌⊎◌, length}
 use Rattle.programs_flow.specs.declared.Went.{Went}
+use Rattle.programs_flow.specs.Flow.{has_failed}
 use Rattle.programs_flow.specs.Loops.{Text, NoneEmpty, behind, Over}
 use Rattle.judging.specs.declared.Judge.{Judge}
 use Rattle.judge_verdict.specs.declared.Judgement.{Judgement}
@@ -22,7 +23,8 @@ judge_wants j = to_come j.run.stage
 abbrev pub Judged : Judgement → Went → Type 0
 Judged j went =
     (ps : List (List ℕ)) × NoneEmpty ps × (j ≡ judged_in at_first ps)
-    × ((2 ≤ went.kind) ⊎ ((went.sent ≡ length (report_text j)) × Over judge_wants (behind fed at_first ps) ps went))
+    × ((has_failed went.state ≡ true)
+    ⊎ ((went.sent ≡ length (report_text j)) × Over judge_wants (behind fed at_first ps) ps went))
 
 -- Judge: the status of the verdict on some pieces, or 3.
 abbrev pub JudgedOrFailed : ℕ → Type 0

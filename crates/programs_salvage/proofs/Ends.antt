@@ -11,18 +11,13 @@ use lib.ListN.{length}
 use lib.Seq.{sets, length-sets, length-take-le}
 use Rattle.decimal.specs.Buffer.{contents_after, place_after, InFront}
 use Rattle.programs_flow.specs.declared.Went.{Went}
-use Rattle.programs_flow.specs.Flow.{where_done}
+use Rattle.programs_flow.specs.Flow.{has_failed, where_done}
 use Rattle.programs_salvage.specs.Work.{AllTaken, Salvaged}
 
 pub still : (b : Bool) (w r : Went) → r ≡ where_done b w → Salvaged w → Salvaged r
 unfolding where_done
 still true w r e s = subst Salvaged (sym e) s
-still false w r e s = let k = ap (λ (x : Went). x.kind) e in inr (inl (omega (arith, k)))
-
-pub taken : (b : Bool) (w : Went) → b ≡ eqb w.kind 1 → b ≡ true → Salvaged w → AllTaken w
-taken b w e t (inl a) = a
-taken b w e t (inr (inl f)) = let k = eqb-true w.kind 1 (sym e ∙ t) in absurd (omega (arith, k, f))
-taken b w e t (inr (inr z)) = let k = eqb-true w.kind 1 (sym e ∙ t) in absurd (omega (arith, k, z))
+still false w r e s = inr (inl (ap (λ (x : Went). has_failed x.state) e))
 
 -- ---- a name with a text put behind it
 

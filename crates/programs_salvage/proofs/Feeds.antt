@@ -1,18 +1,18 @@
--- One turn: a piece that was fed with code 0 leaves the state behind it, in the buffer and in the counts; and a turn that has read nothing leaves it as it was.
+-- One turn: a piece that was fed with code 0 leaves the state behind it, in the buffer and in the counts.
 -- Assumes nothing.
 use Prim.Native.Nat.{ℕ, zero, suc, ◌+◌, ◌-◌, ◌≤◌}
 use native.Mathlib.Omega.{arith}
 use mathlib.Core.Bool.{Bool, true, false, cond}
 use mathlib.Core.Path.{◌≡◌, refl, ap, sym, ◌∙◌}
 use mathlib.Core.List.{List, [], ◌∷◌, ◌++◌}
-use mathlib.Core.Logic.{inl, inr, ⊎_elim}
+use mathlib.Core.Logic.{inl, inr, ⊎_elim, ◌≢◌}
 use borrow.Author.Tests.{le-leb}
 use lib.Dec.{eqb, leb}
 use lib.ListN.{length, take, drop, length-append, length-drop}
 use lib.Seq.{sets, length-sets, length-take-le, take-add, take-nil, drop-nil}
+use Rattle.programs_flow.specs.declared.State.TheVariants.{GoesOn}
 use Rattle.programs_flow.specs.declared.Went.{Went}
-use Rattle.programs_flow.specs.Flow.{Came, Took, unread}
-use Rattle.programs_flow.specs.Loops.{Unfed}
+use Rattle.programs_flow.specs.Flow.{Came, Took}
 use Rattle.programs_flow.proofs.Rooms.{put_front}
 use Rattle.std.specs.Prelude.{Result, Ok, Err}
 use Rattle.rules.specs.declared.Refusal.{Refusal}
@@ -140,28 +140,13 @@ moved_down t buf buf' n done left o e (r, s) =
 
 -- ---- a turn
 
--- it has read nothing, or nothing that can be used: what is held is as it was
-pub untouched : (s : Stand) (buf buf' : List ℕ) → take s.held buf' ≡ take s.held buf → standing s buf' ≡ standing s buf
-untouched s buf buf' k = rw k
-
-pub unfed : (s : Stand) (buf buf' : List ℕ) (was came : Went) → Came was came (drop s.held buf') → 1 ≤ came.kind
-    → take s.held buf' ≡ take s.held buf → Unfed (standing s buf) (standing s buf') was came
-unfed s buf buf' was came c o k = (untouched s buf buf' k, o, c.1, c.2)
-
-pub too_long : (s : Stand) (buf buf' : List ℕ) (was came went : Went) → Came was came (drop s.held buf') → went ≡ unread came
-    → take s.held buf' ≡ take s.held buf → Unfed (standing s buf) (standing s buf') was went
-too_long s buf buf' was came went c e k =
-    let a = ap (λ (w : Went). w.kind) e in
-    let b = ap (λ (w : Went). w.sent) e in
-    (untouched s buf buf' k, omega (arith, a), omega (arith, a), b ∙ c.2)
-
 same_between : (t u : Torn) (h k : List ℕ) (m n : ℕ) → t ≡ u → h ≡ k → m ≡ n
     → ◌≡◌ {A = Between} (record { torn = t; held = h; kept = m }) (record { torn = u; held = k; kept = n })
 same_between t u h k m n e f g = rw (e, f, g)
 
 -- it has read a piece, behind the held bytes
 module _ (s : Stand) (buf buf' buf'' out text : List ℕ) (was came went : Went) (n all left a b : ℕ) (fed : Fed) (sane : Sane s)
-    (c : Came was came (drop s.held buf')) (k : take s.held buf' ≡ take s.held buf) (on : came.kind ≡ 0) (e : n ≡ came.count)
+    (c : Came was came (drop s.held buf')) (k : take s.held buf' ≡ take s.held buf) (on : came.state ≡ GoesOn) (e : n ≡ came.count)
     (f : all ≡ s.held + n) (h : Carried s.torn (take all buf') a b came (Ok (fed, went)) out text) where
   piece : List ℕ
   piece = take n (drop s.held buf')
@@ -179,8 +164,8 @@ module _ (s : Stand) (buf buf' buf'' out text : List ℕ) (was came went : Went)
 
   some : 1 ≤ n
   some =
-      ⊎_elim (λ (x : (came.kind ≡ 0) × (1 ≤ came.count)). omega (arith, x.1, e))
-      (λ (x : (came.count ≡ 0) × (1 ≤ came.kind)). absurd (omega (arith, x.1, on))) c.0.2
+      ⊎_elim (λ (x : (came.state ≡ GoesOn) × (1 ≤ came.count)). omega (arith, x.1, e))
+      (λ (x : (came.count ≡ 0) × (came.state ≢ GoesOn)). absurd (x.1 on)) c.0.2
 
   answer : Well s.torn (start.held ++ piece) a b fed
   answer = rw bytes at (well s.torn (take all buf') a b fed h.0)
@@ -210,7 +195,7 @@ module _ (s : Stand) (buf buf' buf'' out text : List ℕ) (was came went : Went)
           ),
         )
       where
-        since : (x : ℕ) → Took x came.kind came went → Took x 0 was went
+        since : (x : ℕ) → Took x came.state came went → Took x GoesOn was went
         since x (inl (i, j)) = inl (i ∙ on, j ∙ ap (λ (y : ℕ). y + x) c.2)
         since x (inr i) = inr i
 

@@ -8,8 +8,10 @@ use mathlib.Core.List.{List, []}
 use mathlib.Core.Logic.{◌⊎◌, inl, inr}
 use lib.ListN.{length, take, length-append}
 use lib.Seq.{take-length, length-take-le}
+use Rattle.programs_flow.specs.declared.State.{State}
+use Rattle.programs_flow.specs.declared.State.TheVariants.{GoesOn, Ended, ReadFailed, WriteFailed}
 use Rattle.programs_flow.specs.declared.Went.{Went}
-use Rattle.programs_flow.specs.Flow.{nothing_yet, Took}
+use Rattle.programs_flow.specs.Flow.{nothing_yet, has_failed, Took}
 use Rattle.programs_flow.specs.Loops.{Fed, Looped, Concluded, Over, behind, texts}
 use Rattle.programs_flow.proofs.Turns.{Running, one_turn, in_all}
 use Rattle.salvage_marks.specs.Pieces.{last_place}
@@ -23,7 +25,7 @@ abbrev pub always : Between → Bool
 always s = true
 
 -- one turn more
-pub ran_on : (t u : Between) (went now : Went) (turns : ℕ) (out text : List ℕ) → Running then both_of before_all t nothing_yet went turns → went.kind ≡ 0
+pub ran_on : (t u : Between) (went now : Went) (turns : ℕ) (out text : List ℕ) → Running then both_of before_all t nothing_yet went turns → went.state ≡ GoesOn
     → Turned t u went now out text → Running then both_of before_all u nothing_yet now (turns + 1)
 ran_on t u went now turns out text r on (inr unfed) = one_turn then both_of before_all t u nothing_yet went now turns r on [] [] (inr unfed)
 ran_on t u went now turns out text r on (inl (p, (o, n, e, _, _, took))) =
@@ -34,7 +36,7 @@ ran_on t u went now turns out text r on (inl (p, (o, n, e, _, _, took))) =
     whole = sym (take-length p) ∙ ap (λ (k : ℕ). take k p) n
 
     fed : Fed then both_of t u went now p (both_of t p)
-    fed = (o, e, take-length (both_of t p), subst (λ (k : ℕ). Took k 0 went now) (sym (length-append (kept_of t p) (lines_of t p))) took)
+    fed = (o, e, take-length (both_of t p), subst (λ (k : ℕ). Took k GoesOn went now) (sym (length-append (kept_of t p) (lines_of t p))) took)
 
 -- the whole run
 module _ (x : Stand) (buf : List ℕ) (read went : Went) (l : Looped then both_of always before_all (standing x buf) nothing_yet read) (sane : Sane x)
@@ -56,15 +58,16 @@ module _ (x : Stand) (buf : List ℕ) (read went : Went) (l : Looped then both_o
   pub finished : Salvaged went
   finished = go (in_all then both_of always before_all (standing x buf) [] (end_of x.torn x.held x.kept) nothing_yet read went (inl (refl, refl)) l c)
     where
-      by_kind : (k : ℕ) → went.kind ≡ k
+      by_state : (k : State) → went.state ≡ k
           → went.sent ≡ 0 + (length (texts then both_of before_all l.pieces) + length (end_of x.torn x.held x.kept)) → Salvaged went
-      by_kind zero e s = inr (inr e)
-      by_kind (suc zero) e s = inl (e, (l.pieces, l.none_empty, omega (arith, s, printed, whole_tape l.pieces placed)))
-      by_kind (suc (suc k)) e s = inr (inl (omega (arith, e)))
+      by_state GoesOn e s = inr (inr e)
+      by_state Ended e s = inl (e, (l.pieces, l.none_empty, omega (arith, s, printed, whole_tape l.pieces placed)))
+      by_state ReadFailed e s = inr (inl (ap has_failed e))
+      by_state WriteFailed e s = inr (inl (ap has_failed e))
 
-      go : (2 ≤ went.kind)
+      go : (has_failed went.state ≡ true)
           ⊎ ((went.sent ≡ 0 + (length (texts then both_of before_all l.pieces) + length (end_of x.torn x.held x.kept)))
           × Over always (behind then before_all l.pieces) l.pieces went)
           → Salvaged went
       go (inl f) = inr (inl f)
-      go (inr (s, _)) = by_kind went.kind refl s
+      go (inr (s, _)) = by_state went.state refl s

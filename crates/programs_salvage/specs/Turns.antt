@@ -1,5 +1,6 @@
 -- The loop over the pieces of the old tape: what a turn leaves in the state and in the buffers that are lent to it.
 use Rattle.std.specs.Prelude.{ℕ, ◌+◌, ◌≤◌, ◌≡◌, List, ◌⊎◌, length, take, Result, Ok, Err}
+use Rattle.programs_flow.specs.declared.State.TheVariants.{GoesOn}
 use Rattle.programs_flow.specs.declared.Went.{Went}
 use Rattle.programs_flow.specs.Flow.{Took}
 use Rattle.programs_flow.specs.Loops.{Unfed}
@@ -29,7 +30,7 @@ Rooms buf out list text = (8192 ≡ length buf) × (8192 ≡ length out) × (102
 abbrev pub Handed : List ℕ → List ℕ → Went → Went → List ℕ → Type 0
 Handed kept lines was went out =
     (take (length lines) out ≡ lines) × (went.count ≡ was.count)
-    × Took (length kept + length lines) was.kind was went
+    × Took (length kept + length lines) was.state was went
 
 -- The held bytes and a piece, `buf`, were fed, with buffers of n bytes and m numbers; where that was not refused, what
 -- is kept of them stands in its buffer, and that and the lines were handed over.
@@ -45,7 +46,7 @@ abbrev pub FedBoth : Between → Between → Went → Went → List ℕ → List
 FedBoth s t was went p out text =
     (1 ≤ length p) × (length p ≡ went.count) × (t ≡ then s p) × (take (length (kept_of s p)) out ≡ kept_of s p)
     × (take (length (lines_of s p)) text ≡ lines_of s p)
-    × Took (length (kept_of s p) + length (lines_of s p)) 0 was went
+    × Took (length (kept_of s p) + length (lines_of s p)) GoesOn was went
 
 -- A turn: it has read a piece, or nothing that can be used.
 abbrev pub Turned : Between → Between → Went → Went → List ℕ → List ℕ → Type 0

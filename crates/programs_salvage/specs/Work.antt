@@ -7,8 +7,10 @@
 -- one that syncs another file, or none; one that leaves a file behind where it fails, names another one or none, or
 -- replaces one that is there; one that opens the old tape for writing; one that answers 2 or 3 though nothing failed;
 -- one that tells its progress where there is no terminal, or never.
-use Rattle.std.specs.Prelude.{ℕ, ◌+◌, ◌-◌, ◌/◌, ◌≤◌, ◌≡◌, List, [], ◌++◌, ◌⊎◌, length, Option, option_to_list}
+use Rattle.std.specs.Prelude.{ℕ, ◌+◌, ◌-◌, ◌/◌, true, ◌≡◌, List, [], ◌++◌, ◌⊎◌, length, Option, option_to_list}
+use Rattle.programs_flow.specs.declared.State.TheVariants.{GoesOn, Ended}
 use Rattle.programs_flow.specs.declared.Went.{Went}
+use Rattle.programs_flow.specs.Flow.{has_failed}
 use Rattle.programs_flow.specs.Loops.{After, Text, NoneEmpty}
 use Rattle.salvage_marks.specs.declared.Torn.{Torn}
 use Rattle.salvage_marks.specs.declared.Stretch.{Stretch}
@@ -69,12 +71,12 @@ lines tape = list_text (cells (dropped tape)) ++ last_text (length (found tape))
 -- that they are, and its lines.
 abbrev pub AllTaken : Went → Type 0
 AllTaken went =
-    (went.kind ≡ 1)
+    (went.state ≡ Ended)
     × ((ps : List (List ℕ)) × NoneEmpty ps × (went.sent ≡ length (kept (joined ps)) + length (lines (joined ps))))
 
 -- That; or a read or a write failed; or all turns are used up.
 abbrev pub Salvaged : Went → Type 0
-Salvaged went = AllTaken went ⊎ (2 ≤ went.kind) ⊎ (went.kind ≡ 0)
+Salvaged went = AllTaken went ⊎ (has_failed went.state ≡ true) ⊎ (went.state ≡ GoesOn)
 
 -- Behind the pieces, where the work stands so: 0 only where all was taken, else 3.
 abbrev pub NamedOrFailed : Went → ℕ → Type 0

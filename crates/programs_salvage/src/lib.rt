@@ -13,7 +13,7 @@ ghost use Rattle.std.specs.Prelude.{◌≡◌};
 ghost use Rattle.decimal.specs.Buffer.{InFront};
 ghost use Rattle.programs_salvage.specs.Work.{AllTaken, Salvaged, NamedOrFailed, DoneRefusedFailed};
 
-use programs_flow::{Went, checked, has_ended, not_written, refused, told};
+use programs_flow::{Went, checked, not_written, refused, told};
 use salvaging::Torn;
 use std::fs::{File, OpenOptions};
 use std::io::{IsTerminal, Print, Write};
@@ -64,7 +64,7 @@ impl<'a, R: std::rt::Files<File = File>, E: Print + IsTerminal> Job<'a, R, E> {
         requires { Salvaged w }
         ensures { Salvaged result }
     {
-        if !has_ended(w) {
+        if !w.has_ended() {
             return w;
         }
         checked(
@@ -91,7 +91,7 @@ impl<'a, R: std::rt::Files<File = File>, E: Print + IsTerminal> Job<'a, R, E> {
             self.part.as_bytes(),
             b" could not be renamed",
         );
-        if has_ended(named) {
+        if named.has_ended() {
             return named;
         }
         if let Err(why) = fs::remove_file(self.rt, self.new) {
@@ -139,11 +139,11 @@ impl<'a, R: std::rt::Files<File = File>, E: Print + IsTerminal> Job<'a, R, E> {
         requires { Salvaged w }
         ensures { NamedOrFailed w result }
     {
-        if !has_ended(w) {
+        if !w.has_ended() {
             return self.removed();
         }
         let named = self.give_name(w);
-        if !has_ended(named) {
+        if !named.has_ended() {
             return self.removed();
         }
         self.sync_folder();

@@ -1,5 +1,6 @@
 // The loop over the pieces of the old tape: what is kept of each goes to the new tape, what is dropped is listed.
 ghost use Rattle.std.specs.Prelude.{◌+◌, ◌*◌, ◌≤◌, true, ◌≡◌, length, take, drop};
+ghost use Rattle.programs_flow.specs.declared.State.TheVariants.{GoesOn};
 ghost use Rattle.programs_flow.specs.Flow.{nothing_yet, Came, Took};
 ghost use Rattle.programs_flow.specs.Loops.{Put, Looped, Concluded};
 ghost use Rattle.decimal.specs.Buffer.{InFront};
@@ -10,9 +11,7 @@ ghost use Rattle.programs_salvage.specs.Turns as turn;
 
 use crate::{Files, Stand};
 use decimal_print::put_decimal;
-use programs_flow::{
-    Went, brought, goes_on, going, has_failed, not_read, read_from, write_to, write_whole,
-};
+use programs_flow::{Went, not_read, read_from, write_to, write_whole};
 use rules::Refusal;
 use salvage_print::{put_last, put_list};
 use salvaging::{Fed, Torn, at_first, feed, last_stretch, move_down};
@@ -52,12 +51,12 @@ fn hand_over<W: Write, E: Print>(
     cells: &[u64],
     text: &mut [u8],
 ) -> Went
-    requires { (was.kind ≡ 0) × (list_room cells.now ≤ length text.old) }
+    requires { (was.state ≡ GoesOn) × (list_room cells.now ≤ length text.old) }
     ensures { turn.Handed kept.now (list_text cells.now) was result text.new }
 {
     let n = put_dropped(text, cells);
     let went = write_to(was, to, errors, part, kept);
-    if has_failed(went) {
+    if went.has_failed() {
         return went;
     }
     write_whole(went, output, errors, &text[..n])
@@ -77,7 +76,7 @@ fn carry<W: Write, E: Print>(
     list: &mut [u64],
     text: &mut [u8],
 ) -> Result<(Fed, Went), Refusal>
-    requires { (was.kind ≡ 0) × (35 * length list.old ≤ length text.old) }
+    requires { (was.state ≡ GoesOn) × (35 * length list.old ≤ length text.old) }
     ensures { turn.Carried t bytes.now (length out.old) (length list.old) was
         result out.new text.new }
 {
@@ -134,13 +133,13 @@ fn one_piece<W: Write, E: Print>(
 {
     let held = s.held;
     let came = take_in(was, &mut files.old, errors, old, held, buf);
-    if !goes_on(came) {
+    if !came.goes_on() {
         return Turn {
             stand: s,
             went: came,
         };
     }
-    let all = held + brought(came);
+    let all = held + came.brought();
     let carried = carry(
         s.torn,
         came,
@@ -213,8 +212,8 @@ fn all_pieces<W: Write, E: Print + IsTerminal>(
         held: 0,
         kept: 0,
     };
-    let mut went = going();
-    while turns < u64::MAX && goes_on(went) {
+    let mut went = Went::going();
+    while turns < u64::MAX && went.goes_on() {
         let t = one_piece(
             files, output, errors, old, part, stand, went, buf, out, list, text,
         );
@@ -235,7 +234,7 @@ fn write_stretch<W: Write, E: Print>(
     text: &mut [u8],
 ) -> Went
     requires { 70 ≤ length text.old }
-    ensures { Took (length (list_text (numbers_of (last_of s.torn s.held)))) w.kind w result }
+    ensures { Took (length (list_text (numbers_of (last_of s.torn s.held)))) w.state w result }
 {
     match last_stretch(s.torn, s.held) {
         None => w,
@@ -256,7 +255,7 @@ fn write_last<W: Write, E: Print>(
     requires { turn.Sane s × (last_room ≤ length text.old) }
     ensures { Concluded (last_line s.torn s.held s.kept) w result }
 {
-    if has_failed(w) {
+    if w.has_failed() {
         return w;
     }
     let torn = s.torn;
@@ -276,7 +275,7 @@ fn conclude<W: Write, E: Print>(
     requires { turn.Sane s × (last_room ≤ length text.old) }
     ensures { Concluded (end_of s.torn s.held s.kept) read result }
 {
-    if has_failed(read) {
+    if read.has_failed() {
         return read;
     }
     let listed = write_stretch(output, errors, s, read, text);

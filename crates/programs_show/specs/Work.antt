@@ -1,7 +1,7 @@
 -- What show does, as far as a contract can say it (crate programs_flow, specs/Loops), and what it answers.
-use Rattle.std.specs.Prelude.{ℕ, ◌≤◌, Bool, cond, not, ◌&&◌, ◌≡◌, List, ◌++◌, ◌⊎◌, eqb, ltb, length}
+use Rattle.std.specs.Prelude.{ℕ, Bool, cond, not, ◌&&◌, ◌≡◌, List, ◌++◌, ◌⊎◌, eqb, ltb}
 use Rattle.programs_flow.specs.declared.Went.{Went}
-use Rattle.programs_flow.specs.Loops.{NoneEmpty, behind, Over}
+use Rattle.programs_flow.specs.Loops.{behind, Ran}
 use Rattle.text.specs.Printed.{walk_header}
 use Rattle.show_text.specs.declared.Showing.{Showing}
 use Rattle.show_text.specs.Show.{at_first, show_after, printed, lines_seen, wants}
@@ -9,11 +9,7 @@ use Rattle.show_text.specs.Show.{at_first, show_after, printed, lines_seen, want
 -- A whole run of show: w stands behind pieces, none of them empty; and a read or a write failed, or as many bytes were
 -- taken as all that is printed of them has, from the header on.
 abbrev pub Shown : ℕ → Showing → Went → Type 0
-Shown only w went =
-    (ps : List (List ℕ)) × NoneEmpty ps × (w ≡ behind show_after at_first ps)
-    × ((2 ≤ went.kind)
-    ⊎ ((went.sent ≡ length (walk_header ++ printed only at_first ps))
-    × Over (wants only) (behind show_after at_first ps) ps went))
+Shown only w went = Ran show_after (wants only) at_first (λ ps. walk_header ++ printed only at_first ps) w went
 
 -- One line is asked for, and the input has fewer.
 abbrev pub missing : ℕ → Showing → Bool

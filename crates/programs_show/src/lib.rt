@@ -2,165 +2,98 @@
 // the state behind it.
 #![tactic(auto)]
 
-ghost use Rattle.std.specs.Prelude.{◌≤◌, ◌≡◌, length};
+ghost use Rattle.std.specs.Prelude.{◌≡◌, refl};
+ghost use Rattle.std.proofs.Common.{rules};
 ghost use Rattle.text.specs.Printed.{walk_header};
-ghost use Rattle.decimal.specs.Buffer.{InFront};
-ghost use Rattle.show_text.specs.Show.{at_first, text_for, show_after, last_text, wants, show_piece, show_lent};
-ghost use Rattle.programs_flow.specs.Loops as loops;
+ghost use Rattle.show_text.specs.Show as shows;
 ghost use Rattle.programs_show.specs.Work.{Shown, ShownOrFailed, DoneRefusedFailed};
 
 use decimal_print::put_decimal;
-use programs_flow::{
-    Went, brought, goes_on, going, has_failed, read_piece, refused, status, write_whole,
-};
-use programs_hint::hinted;
-use session_show::{Fed, Showing, begin, feed, finish, lines_seen, wants};
+use programs_flow::{Program, Went, over_pieces, refused, write_whole};
+use programs_hint::Hinting;
+use session_show::{Showing, begin, feed, finish, lines_seen, wants};
 use session_walk::header;
 use std::env::FillError;
 use std::io::{Print, Read, Write};
 use std::rt::Env;
 
-// The show behind what was read, how the work stands, and whether a hint was given.
-#[derive(Clone, Copy)]
-struct Turn {
-    showing: Showing,
-    went: Went,
-    given: bool,
+// What it reads at a time; and the room for a block for each byte of that, and one more.
+const PIECE: usize = 15;
+
+const LENT: usize = 65536;
+
+// Of all lines (0), or of the one that is asked for.
+#[derive(Drop)]
+struct Show {
+    only: u64,
+}
+
+impl Program<PIECE, LENT> for Show {
+    type Stand = Showing;
+
+    ghost first = { shows.at_first };
+
+    ghost after = { shows.show_after };
+
+    ghost wants = { λ x. shows.wants x.only };
+
+    ghost header = { walk_header };
+
+    ghost text = { λ x. shows.text_for x.only };
+
+    ghost printed = { λ x. shows.printed x.only };
+
+    fn begin(&self) -> Showing {
+        begin()
+    }
+
+    // Behind the line that is asked for nothing more is read.
+    fn wants(&self, w: Showing) -> bool {
+        wants(self.only, w)
+    }
+
+    fn put_header(&self, out: &mut [u8]) -> usize {
+        header(out)
+    }
+
+    fn feed(&self, w: Showing, piece: &[u8], out: &mut [u8]) -> (Showing, usize) {
+        let f = feed(w, self.only, piece, out);
+        (f.showing, f.at)
+    }
+
+    // A last line without a line end counts.
+    fn conclude<W: Write, E: Print>(
+        &self,
+        output: &mut W,
+        errors: &E,
+        w: Showing,
+        read: Went,
+        out: &mut [u8],
+    ) -> Went {
+        let last = finish(w, self.only, out);
+        write_whole(read, output, errors, &out[..last])
+    }
+
+    ghost fits = { Prim.search rules };
+
+    ghost by_piece = { λ x w p ps. unfold shows.printed in refl };
 }
 
 // The show behind all that was read, and how the work stands behind all that was written.
-#[derive(Clone, Copy)]
-struct Done {
-    showing: Showing,
-    went: Went,
-}
-
-// Where out is the one that `work` lends, there is room for the header, for all that a piece prints, and for a last
-// line.
-fn put_header(out: &mut [u8]) -> usize
-    requires { show_lent ≡ length out.old }
-    ensures { loops.Put result out.new walk_header × InFront result out.new }
-{
-    header(out)
-}
-
-fn put_lines(w: Showing, only: u64, piece: &[u8], out: &mut [u8]) -> Fed
-    requires { (length piece.now ≤ show_piece) × (show_lent ≡ length out.old) }
-    ensures { (result.showing ≡ show_after w piece.now)
-        × loops.Put result.at out.new (text_for only w piece.now)
-        × InFront result.at out.new }
-{
-    feed(w, only, piece, out)
-}
-
-fn put_last(w: Showing, only: u64, out: &mut [u8]) -> usize
-    requires { show_lent ≡ length out.old }
-    ensures { loops.Put result out.new (last_text only w) × InFront result out.new }
-{
-    finish(w, only, out)
-}
-
-// One read, what is printed for it, one write.
-fn one_piece<R: Read, W: Write, E: Print>(
+fn work<R: Read, W: Write, E: Print>(
     from: &mut R,
     output: &mut W,
     errors: &E,
     only: u64,
-    w: Showing,
-    was: Went,
-    given: bool,
-    piece: &mut [u8],
-    out: &mut [u8],
-) -> Turn
-    requires { (length piece.old ≤ show_piece) × (show_lent ≡ length out.old) }
-    ensures { loops.Turned show_after (text_for only) w result.showing was result.went piece.new
-        out.new }
+) -> (Showing, Went)
+    ensures { Shown only result.0 result.1 }
 {
-    let came = read_piece(was, from, errors, piece);
-    if !goes_on(came) {
-        return Turn {
-            showing: w,
-            went: came,
-            given,
-        };
-    }
-    let n = brought(came);
-    let given = hinted(errors, given, &piece[..n]);
-    let f = put_lines(w, only, &piece[..n], out);
-    let at = f.at;
-    let wrote = write_whole(came, output, errors, &out[..at]);
-    let showing = f.showing;
-    Turn {
-        showing,
-        went: wrote,
-        given,
-    }
-}
-
-// Behind the line that is asked for nothing more is read. Nothing says that the input ends, so the turns are counted.
-fn all_pieces<R: Read, W: Write, E: Print>(
-    from: &mut R,
-    output: &mut W,
-    errors: &E,
-    only: u64,
-    headed: Went,
-    piece: &mut [u8],
-    out: &mut [u8],
-) -> Turn
-    requires { (length piece.old ≤ show_piece) × (show_lent ≡ length out.old) }
-    ensures { loops.Looped show_after (text_for only) (wants only) at_first result.showing headed result.went }
-{
-    let mut turns = 0u64;
-    let mut showing = begin();
-    let mut went = headed;
-    let mut given = false;
-    while turns < u64::MAX && goes_on(went) && wants(only, showing) {
-        let t = one_piece(from, output, errors, only, showing, went, given, piece, out);
-        showing = t.showing;
-        went = t.went;
-        given = t.given;
-        turns += 1;
-    }
-    Turn {
-        showing,
-        went,
-        given,
-    }
-}
-
-// The end of the input: a last line. Where a read or a write has failed there is none.
-fn conclude<W: Write, E: Print>(
-    output: &mut W,
-    errors: &E,
-    w: Showing,
-    only: u64,
-    read: Went,
-    out: &mut [u8],
-) -> Went
-    requires { show_lent ≡ length out.old }
-    ensures { loops.Concluded (last_text only w) read result }
-{
-    if has_failed(read) {
-        return read;
-    }
-    let last = put_last(w, only, out);
-    write_whole(read, output, errors, &out[..last])
-}
-
-// The header, the pieces, the end.
-fn work<R: Read, W: Write, E: Print>(from: &mut R, output: &mut W, errors: &E, only: u64) -> Done
-    ensures { Shown only result.showing result.went }
-{
-    let mut piece = [0u8; 15];
-    let mut out = [0u8; 65536];
-    let head = put_header(&mut out);
-    let begun = going();
-    let headed = write_whole(begun, output, errors, &out[..head]);
-    let t = all_pieces(from, output, errors, only, headed, &mut piece, &mut out);
-    let showing = t.showing;
-    let read = t.went;
-    let went = conclude(output, errors, showing, only, read, &mut out);
-    Done { showing, went }
+    let mut hinting = Hinting {
+        from,
+        errors,
+        given: false,
+    };
+    over_pieces(&Show { only }, &mut hinting, output, errors)
 }
 
 // A number, on standard error.
@@ -185,12 +118,11 @@ fn no_line<E: Print>(errors: &E, only: u64, seen: u64) -> u8
 pub fn run<R: Read, W: Write, E: Print>(from: &mut R, output: &mut W, errors: &E, only: u64) -> u8
     ensures { ShownOrFailed only result }
 {
-    let done = work(from, output, errors, only);
-    let went = done.went;
-    if has_failed(went) {
-        return status(went);
+    let (showing, went) = work(from, output, errors, only);
+    if went.has_failed() {
+        return went.status();
     }
-    let seen = lines_seen(done.showing);
+    let seen = lines_seen(showing);
     if (only != 0) & (seen < only) {
         return no_line(errors, only, seen);
     }
@@ -212,10 +144,7 @@ fn no_number<E: Print>(errors: &E, word: &[u8]) -> u8
 // Whether the command line has a word i, whatever it is.
 fn is_given<V: Env>(env: &V, i: usize) -> bool {
     let mut first = [0u8; 1];
-    match env.arg(i, &mut first) {
-        Err(FillError::NotPresent) => false,
-        _ => true,
-    }
+    !matches!(env.arg(i, &mut first), Err(FillError::NotPresent))
 }
 
 // Show over the input. Word 1 of the command line says that it is show (crate programs). Word 2, if there is one, is the

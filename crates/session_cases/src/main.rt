@@ -5,41 +5,29 @@
 use std::fs::File;
 use std::io;
 
-fn opened(rt: &HostRuntime, name: &str) -> io::Result<Option<File>> {
+// A program over the file of this name; whether there is such a file.
+fn ran<F: FnOnce(&mut File) -> u8>(rt: &HostRuntime, name: &str, program: F) -> io::Result<bool>
+    requires { F.IsAlwaysCallable program }
+{
     match File::open(rt, name) {
-        Ok(file) => {
+        Ok(mut file) => {
             println!(rt; "file {name}")?;
-            Ok(Some(file))
-        }
-        Err(_) => Ok(None),
-    }
-}
-
-fn one_walk(rt: &HostRuntime, i: u8) -> io::Result<bool> {
-    let name = format!(in rt.alloc(); "{i:02}.walk")?;
-    match opened(rt, name.as_str())? {
-        Some(mut file) => {
-            programs_walk::run(&mut file, &mut rt.stdout(), &rt.stderr());
+            program(&mut file);
             Ok(true)
         }
-        None => Ok(false),
-    }
-}
-
-fn one_draw(rt: &HostRuntime, i: u8) -> io::Result<bool> {
-    let name = format!(in rt.alloc(); "{i:02}.draw")?;
-    match opened(rt, name.as_str())? {
-        Some(mut file) => {
-            programs_draw::run(&mut file, &mut rt.stdout(), &rt.stderr());
-            Ok(true)
-        }
-        None => Ok(false),
+        Err(_) => Ok(false),
     }
 }
 
 fn one_number(rt: &HostRuntime, i: u8) -> io::Result<bool> {
-    let walked = one_walk(rt, i)?;
-    let drawn = one_draw(rt, i)?;
+    let walk = format!(in rt.alloc(); "{i:02}.walk")?;
+    let draw = format!(in rt.alloc(); "{i:02}.draw")?;
+    let walked = ran(rt, walk.as_str(), |file| {
+        programs_walk::run(file, &mut rt.stdout(), &rt.stderr())
+    })?;
+    let drawn = ran(rt, draw.as_str(), |file| {
+        programs_draw::run(file, &mut rt.stdout(), &rt.stderr())
+    })?;
     Ok(walked | drawn)
 }
 

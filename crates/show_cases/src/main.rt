@@ -21,8 +21,8 @@ fn one_number(rt: &HostRuntime, i: u8) -> io::Result<()> {
     let line = format!(in rt.alloc(); "{i:02}.line")?;
     let far = format!(in rt.alloc(); "{i:02}.far")?;
     show(rt, all.as_str(), 0)?;
-    show(rt, line.as_str(), i as u64)?;
-    show(rt, far.as_str(), i as u64 * 100)
+    show(rt, line.as_str(), u64::from(i))?;
+    show(rt, far.as_str(), u64::from(i) * 100)
 }
 
 // Not every number has each of the three.

@@ -1,7 +1,6 @@
 -- A lot is drawn and written in each turn (proofs/Draws).
-use Rattle.std.proofs.Common.{arith, inr}
+use Rattle.std.proofs.Common.{arith, inr, sym, ◌∙◌}
 use Rattle.programs_draw.proofs.Draws.{none_drawn, lot_drawn, fewer, out_of_draws}
-use Rattle.programs_flow.proofs.Turns.{not_failed}
 use Rattle.programs_draw.proofs.all_draws.Goals as goal
 
 pub loop-run-init : goal.loop-run-init
@@ -14,17 +13,17 @@ pub loop-run-preserved : goal.loop-run-preserved
 loop-run-preserved g c =
     let lp = c.loop-run in
     let put = c.put_draws-f in
-    let on = not_failed lp.went.kind c.has_failed.result c.has_failed.ensures c.loop-run-test.true in
+    let on = sym c.has_failed.ensures ∙ c.loop-run-test.true in
     lot_drawn _ lp.run _ _ lp.went _ put.result.at _ lp.invariant on put.ensures.0 put.ensures.1 c.write_whole-went.ensures
 
 pub returns-else-run-gt0 : goal.returns-else-run-gt0
 returns-else-run-gt0 g c =
     let lp = c.loop-run in
-    let on = not_failed lp.went.kind c.has_failed.result c.has_failed.ensures c.loop-run-test.true in
+    let on = sym c.has_failed.ensures ∙ c.loop-run-test.true in
     out_of_draws _ lp.run _ lp.went lp.invariant (inr (on, λ _. omega (arith, c.if-run-gt0.false)))
 
 pub returns-else-run-eq-DRAWING : goal.returns-else-run-eq-DRAWING
 returns-else-run-eq-DRAWING g c =
     let lp = c.loop-run in
-    let on = not_failed lp.went.kind c.has_failed.result c.has_failed.ensures c.loop-run-test.true in
+    let on = sym c.has_failed.ensures ∙ c.loop-run-test.true in
     out_of_draws _ lp.run _ lp.went lp.invariant (inr (on, λ s. absurd (c.if-run-eq-DRAWING.false s)))

@@ -8,4 +8,6 @@ pub returns-then-has_failed : goal.returns-then-has_failed
 returns-then-has_failed g c = inr (c.status.ensures ∙ ap (λ (b : Bool). cond b 3 0) (sym c.has_failed.ensures ∙ c.if-has_failed.true))
 
 pub returns : goal.returns
-returns g c = inl (c.work-w.ensures.0, c.status-2.ensures ∙ ap (λ (x : Judgement). status-on x.verdict) c.work-w.ensures.2)
+returns g c =
+    let w = c.work.ensures in
+    inl (w.0, c.status-2.ensures ∙ ap (λ (x : Judgement). status-on x.verdict) w.2)

@@ -1,5 +1,5 @@
 -- The turns are counted (proofs/Rounds).
-use Rattle.std.proofs.Common.{arith, refl, ap}
+use Rattle.std.proofs.Common.{arith, refl, ap, sym, ◌∙◌}
 use Rattle.salvage_marks.specs.declared.Torn.{Torn}
 use Rattle.programs_flow.specs.Flow.{nothing_yet}
 use Rattle.programs_flow.proofs.Turns.{at_start, gone_on}
@@ -19,5 +19,5 @@ pub loop-turns-preserved : goal.loop-turns-preserved
 loop-turns-preserved g c =
     let lp = c.loop-turns in
     let one = c.one_piece-t in
-    let on = gone_on lp.went.kind c.goes_on.result c.goes_on.ensures c.if-goes_on.true in
+    let on = gone_on lp.went.state (sym c.goes_on.ensures ∙ c.if-goes_on.true) in
     (one.ensures.1, ran_on (standing lp.stand lp.buf) _ lp.went one.result.went lp.turns _ _ lp.invariant.1 on one.ensures.0)

@@ -1,5 +1,5 @@
 -- A piece that was read is behind the state, or nothing was read (proofs/Feeds).
-use Rattle.std.proofs.Common.{◌+◌, ◌≤◌, arith, refl, [], length, length-drop}
+use Rattle.std.proofs.Common.{◌+◌, ◌≤◌, arith, refl, sym, ◌∙◌, [], length, length-drop}
 use Rattle.programs_flow.proofs.Turns.{gone_on}
 use Rattle.programs_salvage.proofs.Feeds.{kept_fits, next_turn}
 use Rattle.programs_salvage.proofs.pieces.one_piece.Goals as goal
@@ -9,7 +9,7 @@ overflow_add-kept g c =
     let a = c.args in
     let r = c.take_in-came in
     let f = c.in-Ok in
-    let on = gone_on r.result.kind c.goes_on.result c.goes_on.ensures c.if-not-goes_on.false in
+    let on = gone_on r.result.state (sym c.goes_on.ensures ∙ c.if-not-goes_on.false) in
     let h = rw f.is at c.carry-carried.ensures in
     omega (
       arith,
@@ -21,7 +21,7 @@ returns g c =
     let a = c.args in
     let r = c.take_in-came in
     let f = c.in-Ok in
-    let on = gone_on r.result.kind c.goes_on.result c.goes_on.ensures c.if-not-goes_on.false in
+    let on = gone_on r.result.state (sym c.goes_on.ensures ∙ c.if-not-goes_on.false) in
     let h = rw f.is at c.carry-carried.ensures in
     let fit : a.s.held + c.brought.result ≤ length r.new.buf =
     omega (arith, r.ensures.0.0.0, c.brought.ensures, length-drop a.s.held r.new.buf, r.auto.buf, c.requires.0.0, c.requires.1.0) in

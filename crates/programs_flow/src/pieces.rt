@@ -1,0 +1,132 @@
+// The loop of every program that reads its input in pieces: the header, the pieces, the end.
+ghost use Rattle.std.specs.Prelude.{◌^◌, ◌<◌, ◌≤◌, ◌≡◌, ℕ, Bool, false, List, [], ◌∷◌, ◌++◌, length};
+ghost use Rattle.std.specs.Counts.{IsPrefixLen};
+ghost use Rattle.programs_flow.specs.Flow as flow;
+ghost use Rattle.programs_flow.specs.Loops as loops;
+
+use crate::{Went, read_piece, write_whole};
+use std::io::{Print, Read, Write};
+
+// A program that reads its input in pieces of at most N bytes, and prints into a buffer of M bytes: all that it prints
+// at once has room there.
+pub trait Program<const N: usize, const M: usize> {
+    // Where it stands between two pieces.
+    type Stand: Copy;
+
+    // Before all pieces; behind a piece; and whether more is wanted.
+    ghost first: { Self.Stand };
+
+    ghost after: { loops.After Self.Stand };
+
+    ghost wants: { Self → Self.Stand → Bool };
+
+    // What it prints: the header, the text for a piece, and all for pieces to the end of the input.
+    ghost header: { List ℕ };
+
+    ghost text: { Self → loops.Text Self.Stand };
+
+    ghost printed: { Self → Self.Stand → List (List ℕ) → List ℕ };
+
+    fn begin(&self) -> Self::Stand
+        ensures { result ≡ first };
+
+    fn wants(&self, s: Self::Stand) -> bool
+        ensures { result ≡ wants self.now s };
+
+    fn put_header(&self, out: &mut [u8]) -> usize
+        requires { M ≡ length out.old }
+        ensures { loops.Put result out.new header × IsPrefixLen result out.new };
+
+    fn feed(&self, s: Self::Stand, piece: &[u8], out: &mut [u8]) -> (Self::Stand, usize)
+        requires { (length piece.now ≤ N) × (M ≡ length out.old) }
+        ensures { (result.0 ≡ after s piece.now) × loops.Put result.1 out.new (text self.now s piece.now)
+            × IsPrefixLen result.1 out.new };
+
+    // What is printed at the end of the input, where nothing has failed.
+    // Kept (plain): input, output and errors do not always travel together: here no input is lent.
+    fn conclude<W: Write, E: Print>(
+        &self,
+        output: &mut W,
+        errors: &E,
+        s: Self::Stand,
+        read: Went,
+        out: &mut [u8],
+    ) -> Went
+        requires { (flow.has_failed read.state ≡ false) × (M ≡ length out.old) }
+        ensures { flow.Took (length (printed self.now s [])) read.state read result };
+
+    // A slice has no more bytes than that.
+    ghost fits: { (N < 2 ^ 63) × (M < 2 ^ 63) };
+
+    // All that is printed for pieces is printed piece by piece.
+    ghost by_piece: { (x : Self) (s : Self.Stand) (p : List ℕ) (ps : List (List ℕ))
+        → printed x s (p ∷ ps) ≡ text x s p ++ printed x (after s p) ps };
+}
+
+// One read, what is printed for it, one write.
+fn one_piece<const N: usize, const M: usize, P: Program<N, M>, R: Read, W: Write, E: Print>(
+    program: &P,
+    from: &mut R,
+    output: &mut W,
+    errors: &E,
+    s: P::Stand,
+    was: Went,
+    piece: &mut [u8],
+    out: &mut [u8],
+) -> (P::Stand, Went)
+    requires { (length piece.old ≤ N) × (M ≡ length out.old) }
+    ensures { loops.Turned P.after (P.text program.now) s result.0 was result.1 piece.new out.new }
+{
+    let came = read_piece(was, from, errors, piece);
+    if !came.goes_on() {
+        return (s, came);
+    }
+    let n = came.brought();
+    let (behind, at) = program.feed(s, &piece[..n], out);
+    (behind, write_whole(came, output, errors, &out[..at]))
+}
+
+// Nothing says that the input ends, so the turns are counted.
+fn all_pieces<const N: usize, const M: usize, P: Program<N, M>, R: Read, W: Write, E: Print>(
+    program: &P,
+    from: &mut R,
+    output: &mut W,
+    errors: &E,
+    headed: Went,
+    piece: &mut [u8],
+    out: &mut [u8],
+) -> (P::Stand, Went)
+    requires { (length piece.old ≤ N) × (M ≡ length out.old) }
+    ensures { loops.Looped P.after (P.text program.now) (P.wants program.now) P.first result.0 headed result.1 }
+{
+    let mut s = program.begin();
+    let mut went = headed;
+    for _ in 0..u64::MAX {
+        if !went.goes_on() || !program.wants(s) {
+            break;
+        }
+        (s, went) = one_piece(program, from, output, errors, s, went, piece, out);
+    }
+    (s, went)
+}
+
+// The header, the pieces, the end. Where a read or a write has failed nothing more is written.
+pub fn over_pieces<const N: usize, const M: usize, P: Program<N, M>, R: Read, W: Write, E: Print>(
+    program: &P,
+    from: &mut R,
+    output: &mut W,
+    errors: &E,
+) -> (P::Stand, Went)
+    ensures { loops.Ran P.after (P.wants program.now) P.first (λ ps. P.header ++ P.printed program.now P.first ps)
+        result.0 result.1 }
+{
+    let mut piece = [0u8; N];
+    let mut out = [0u8; M];
+    let head = program.put_header(&mut out);
+    let headed = write_whole(Went::going(), output, errors, &out[..head]);
+    let (s, read) = all_pieces(program, from, output, errors, headed, &mut piece, &mut out);
+    if read.has_failed() {
+        return (s, read);
+    }
+    (s, program.conclude(output, errors, s, read, &mut out))
+}
