@@ -8,25 +8,31 @@ use native.Mathlib.Omega.{arith}
 use lib.ListN.{length, take, drop}
 use lib.Dec.{ltb, eqb}
 use borrow.Author.Tests.{ltb-false, eqb-true, eqb-false, eq-eqb, ne_eqb, lt-ltb, le-ltb}
+use Rattle.std.specs.Prelude.{Some, None, Result, Ok, Err}
+use Rattle.rules.specs.declared.Refusal.{Refusal}
+use Rattle.rules.specs.declared.Refusal.TheVariants.{Record as NoRecord, Seed}
 use Rattle.record.specs.declared.Record.{Record}
 use Rattle.record.specs.Form.{record_of, marked, header_fields, command_fields, is_seed}
 use Rattle.record.specs.Fault.{fault_of}
-use Rattle.record.proofs.Faults.{bytes_fault, number, Number, numbered, right, wrong, unseeded}
-use Rattle.tape_form.specs.Read.{judged, end_of, read_of, size_of, start_of, part_at, start_at}
-use Rattle.tape_form.specs.declared.Read.{Read}
-use Rattle.tape_form.specs.declared.Read.TheVariants.{Found, End, Refused}
+use Rattle.record.proofs.Faults.{bytes_fault, answer, Answer, answered, right, wrong, unseeded}
+use Rattle.tape_form.specs.Read.{Read, judged, end_of, read_of, size_of, start_of, part_at, start_at}
+
+-- what the reader answers of bytes that the writer answers so
+abbrev pub read_as : Result Unit Refusal → Record → ℕ → Read
+read_as (Ok u) r next = Ok (Some (r, next))
+read_as (Err e) r next = Err e
 
 -- reader and writer judge alike
-pub judged_fault : (at : ℕ) (p : List ℕ) → judged at p ≡ cond (eqb (bytes_fault at p) 0) (Found (record_of p) (at + 16)) (Refused (bytes_fault at p))
+pub judged_fault : (at : ℕ) (p : List ℕ) → judged at p ≡ read_as (bytes_fault at p) (record_of p) (at + 16)
 unfolding judged fault_of
 judged_fault at p = go (eqb at 0) (marked p) (header_fields (record_of p)) (is_seed (record_of p).value) (command_fields (record_of p))
   where
     f : Read
-    f = Found (record_of p) (at + 16)
+    f = Ok (Some (record_of p, at + 16))
 
     go : (z m h v k : Bool)
-        → cond z (cond (m && h && v) f (cond (m && h && not v) (Refused 17) (Refused 15))) (cond (m && k) f (Refused 15))
-        ≡ cond (eqb (number z m h v k) 0) f (Refused (number z m h v k))
+        → cond z (cond (m && h && v) f (cond (m && h && not v) (Err Seed) (Err NoRecord))) (cond (m && k) f (Err NoRecord))
+        ≡ read_as (answer z m h v k) (record_of p) (at + 16)
     go true true true true k = refl
     go true true true false k = refl
     go true true false v k = refl
@@ -37,17 +43,17 @@ judged_fault at p = go (eqb at 0) (marked p) (header_fields (record_of p)) (is_s
 
 -- What a reader answers, with what holds there.
 pub data Stands (s : List ℕ) (at : ℕ) : Read → Type 0 where
-  found : at % 16 ≡ 0 → at + 16 ≤ length s → bytes_fault at (take 16 (drop at s)) ≡ 0
-      → Stands s at (Found (record_of (take 16 (drop at s))) (at + 16))
-  end : at % 16 ≡ 0 → at ≡ length s → 0 < length s → Stands s at End
-  no_record : Stands s at (Refused 15)
-  no_seed : at ≡ 0 → 16 ≤ length s → Stands s at (Refused 17)
+  found : at % 16 ≡ 0 → at + 16 ≤ length s → bytes_fault at (take 16 (drop at s)) ≡ Ok tt
+      → Stands s at (Ok (Some (record_of (take 16 (drop at s)), at + 16)))
+  end : at % 16 ≡ 0 → at ≡ length s → 0 < length s → Stands s at (Ok None)
+  no_record : Stands s at (Err NoRecord)
+  no_seed : at ≡ 0 → 16 ≤ length s → Stands s at (Err Seed)
 
 judged_stands : (s : List ℕ) (at : ℕ) → at % 16 ≡ 0 → at + 16 ≤ length s → Stands s at (judged at (take 16 (drop at s)))
-judged_stands s at w room = rw (judged_fault at (take 16 (drop at s))) (go refl (numbered at (take 16 (drop at s))))
+judged_stands s at w room = rw (judged_fault at (take 16 (drop at s))) (go refl (answered at (take 16 (drop at s))))
   where
-    go : {c : ℕ} → bytes_fault at (take 16 (drop at s)) ≡ c → Number at c
-        → Stands s at (cond (eqb c 0) (Found (record_of (take 16 (drop at s))) (at + 16)) (Refused c))
+    go : {c : Result Unit Refusal} → bytes_fault at (take 16 (drop at s)) ≡ c → Answer at c
+        → Stands s at (read_as c (record_of (take 16 (drop at s))) (at + 16))
     go e right = found w room e
     go e wrong = no_record
     go e (unseeded z) = no_seed z (omega arith)
@@ -59,8 +65,8 @@ stands s at = go (eqb (at % 16) 0) refl (ltb (length s) at) (eqb at (length s)) 
     go : (w : Bool) → eqb (at % 16) 0 ≡ w → (p h : Bool) → eqb at (length s) ≡ h → (z : Bool) → eqb (length s) 0 ≡ z
         → (l : Bool) → ltb (length s) (at + 16) ≡ l
         → Stands s at
-        (cond (not w) (Refused 15)
-        (cond p (Refused 15) (cond h (cond z (Refused 15) End) (cond l (Refused 15) (judged at (take 16 (drop at s)))))))
+        (cond (not w) (Err NoRecord)
+        (cond p (Err NoRecord) (cond h (cond z (Err NoRecord) (Ok None)) (cond l (Err NoRecord) (judged at (take 16 (drop at s)))))))
     go false w p h e z f l g = no_record
     go true w true h e z f l g = no_record
     go true w false true e true f l g = no_record
@@ -76,25 +82,20 @@ stands s at = go (eqb (at % 16) 0) refl (ltb (length s) at) (eqb at (length s)) 
 pub sixteen : (s : List ℕ) (at : ℕ) → take (at + 16 - at) (drop at s) ≡ take 16 (drop at s)
 sixteen s at = let e : at + 16 - at ≡ 16 = omega arith in ap (λ (n : ℕ). take n (drop at s)) e
 
--- the number, by what the code's four calls ensure (a `cc` over all that is known took three seconds)
-pub number_so : {c f : ℕ} {t : Bool} {r : Record} (at : ℕ) (p : List ℕ) → c ≡ cond t f 15 → t ≡ marked p → f ≡ fault_of at r → r ≡ record_of p → c
-    ≡ bytes_fault at p
-number_so at p e m f r = rw (e, m, f, r)
+module _ (at : ℕ) (p : List ℕ) where
+  pub judged_not : {e : Refusal} → bytes_fault at p ≡ Err e → Err e ≡ judged at p
+  judged_not f = rw (judged_fault at p, f)
 
-module _ (at : ℕ) (p : List ℕ) (c : ℕ) (e : c ≡ bytes_fault at p) where
-  pub judged_not : (c ≡ 0 → ⊥) → Refused c ≡ judged at p
-  judged_not n = rw (judged_fault at p, ← e, ne_eqb c 0 n)
-
-  pub judged_is : c ≡ 0 → Found (record_of p) (at + 16) ≡ judged at p
-  judged_is z = rw (judged_fault at p, ← e, eq-eqb c 0 z)
+  pub judged_is : bytes_fault at p ≡ Ok tt → Ok (Some (record_of p, at + 16)) ≡ judged at p
+  judged_is f = rw (judged_fault at p, f)
 
 module _ (s : List ℕ) (at : ℕ) where
-  pub read_odd : (at % 16 ≡ 0 → ⊥) → Refused 15 ≡ read_of s at
+  pub read_odd : (at % 16 ≡ 0 → ⊥) → Err NoRecord ≡ read_of s at
   unfolding read_of
   read_odd n = rw (ne_eqb (at % 16) 0 n)
 
   module _ (w : at % 16 ≡ 0) where
-    pub read_past : length s < at → Refused 15 ≡ read_of s at
+    pub read_past : length s < at → Err NoRecord ≡ read_of s at
     unfolding read_of
     read_past h = rw (eq-eqb (at % 16) 0 w, lt-ltb (length s) at h)
 
@@ -104,7 +105,7 @@ module _ (s : List ℕ) (at : ℕ) where
       read_end e = rw (eq-eqb (at % 16) 0 w, le-ltb (length s) at h, eq-eqb at (length s) e)
 
       module _ (n : at ≡ length s → ⊥) where
-        pub read_short : length s < at + 16 → Refused 15 ≡ read_of s at
+        pub read_short : length s < at + 16 → Err NoRecord ≡ read_of s at
         unfolding read_of
         read_short l = rw (eq-eqb (at % 16) 0 w, le-ltb (length s) at h, ne_eqb at (length s) n, lt-ltb (length s) (at + 16) l)
 
