@@ -1,7 +1,7 @@
 -- Laws of the reader's definitions. One case analysis, `stands`, says what holds where a reader answers a record, the end, 15 or 17; everything
 -- else about reading goes by its four cases. Assumes nothing.
-use mathlib.Core.Path.{◌≡◌, refl, sym, ap, ◌∙◌}
-use mathlib.Core.List.{List, []}
+use mathlib.Core.Path.{◌≡◌, refl, sym, ap}
+use mathlib.Core.List.{List}
 use mathlib.Core.Bool.{Bool, true, false, cond, not, ◌&&◌}
 use Prim.Native.Nat.{ℕ, ◌+◌, ◌-◌, ◌%◌, ◌≤◌, ◌<◌}
 use native.Mathlib.Omega.{arith}
@@ -15,7 +15,7 @@ use Rattle.record.specs.declared.Record.{Record}
 use Rattle.record.specs.Form.{record_of, marked, header_fields, command_fields, is_seed}
 use Rattle.record.specs.Fault.{fault_of}
 use Rattle.record.proofs.Faults.{bytes_fault, answer, Answer, answered, right, wrong, unseeded}
-use Rattle.tape_form.specs.Read.{Read, judged, end_of, read_of, size_of, start_of, part_at, start_at}
+use Rattle.tape_form.specs.Read.{Read, judged, end_of, read_of, part_at, start_at}
 
 -- what the reader answers of bytes that the writer answers so
 abbrev pub read_as : Result Unit Refusal → Record → ℕ → Read
@@ -76,6 +76,10 @@ stands s at = go (eqb (at % 16) 0) refl (ltb (length s) at) (eqb at (length s)) 
     go true w false false e z f true g = no_record
     go true w false false e z f false g = judged_stands s at (eqb-true (at % 16) 0 w) (ltb-false (length s) (at + 16) g)
 
+-- two answers that are one have one record and one place
+pub one_found : {r q : Record} {m n : ℕ} → ◌≡◌ {A = Read} (Ok (Some (r, m))) (Ok (Some (q, n))) → (r ≡ q) × (m ≡ n)
+one_found {r} {q} {m} {n} e = let p : ◌≡◌ {A = Record × ℕ} (r, m) (q, n) = cc in (ap (λ (x : Record × ℕ). x.0) p, ap (λ (x : Record × ℕ). x.1) p)
+
 -- ---- The exits of the code
 
 -- a part of 16 bytes, as the code cuts it
@@ -90,15 +94,7 @@ module _ (at : ℕ) (p : List ℕ) where
   judged_is f = rw (judged_fault at p, f)
 
 module _ (s : List ℕ) (at : ℕ) where
-  pub read_odd : (at % 16 ≡ 0 → ⊥) → Err NoRecord ≡ read_of s at
-  unfolding read_of
-  read_odd n = rw (ne_eqb (at % 16) 0 n)
-
   module _ (w : at % 16 ≡ 0) where
-    pub read_past : length s < at → Err NoRecord ≡ read_of s at
-    unfolding read_of
-    read_past h = rw (eq-eqb (at % 16) 0 w, lt-ltb (length s) at h)
-
     module _ (h : at ≤ length s) where
       pub read_end : at ≡ length s → end_of (length s) ≡ read_of s at
       unfolding read_of
@@ -113,25 +109,21 @@ module _ (s : List ℕ) (at : ℕ) where
         unfolding read_of
         read_judged l = rw (eq-eqb (at % 16) 0 w, le-ltb (length s) at h, ne_eqb at (length s) n, le-ltb (length s) (at + 16) l, sixteen s at)
 
--- the part of an answer: none, or the 16 bytes from the place on
-pub part_none : (s : List ℕ) (at n : ℕ) → n ≡ size_of (read_of s at) → n ≡ 0 → ([] ≡ part_at s at) × (start_at s at ≡ 0)
-unfolding part_at start_at
-part_none s at n e z = go (stands s at) (sym e ∙ z)
+-- a record that is found lies on the tape
+pub found_at : (s : List ℕ) (at : ℕ) (r : Record) (next : ℕ) → read_of s at ≡ Ok (Some (r, next)) → (next ≡ at + 16) × (at + 16 ≤ length s)
+found_at s at r next = go (stands s at)
   where
-    go : {r : Read} → Stands s at r → size_of r ≡ 0 → ([] ≡ take (size_of r) (drop at s)) × (start_of at r ≡ 0)
-    go (found w l f) q = absurd (omega arith)
-    go (end w l f) q = (refl, refl)
-    go no_record q = (refl, refl)
-    go (no_seed a l) q = (refl, refl)
+    go : {x : Read} → Stands s at x → x ≡ Ok (Some (r, next)) → (next ≡ at + 16) × (at + 16 ≤ length s)
+    go (found w l f) e = (sym (one_found e).1, l)
+    go (end w l f) e = absurd cc
+    go no_record e = absurd cc
+    go (no_seed a l) e = absurd cc
 
-pub part_some : (s : List ℕ) (at n : ℕ) → n ≡ size_of (read_of s at) → (n ≡ 0 → ⊥)
-    → (at + n ≤ length s) × (take (at + n - at) (drop at s) ≡ part_at s at) × (start_at s at ≡ at)
+-- and it is the part that is handed back
+pub found_part : (s : List ℕ) (at : ℕ) (r : Record) (next : ℕ) → read_of s at ≡ Ok (Some (r, next))
+    → (take (next - at) (drop at s) ≡ part_at s at) × (start_at s at ≡ at)
 unfolding part_at start_at
-part_some s at n e z = let q : at + n - at ≡ n = omega arith in rw (q, e) (go (stands s at) (λ k. z (e ∙ k)))
-  where
-    go : {r : Read} → Stands s at r → (size_of r ≡ 0 → ⊥)
-        → (at + size_of r ≤ length s) × (take (size_of r) (drop at s) ≡ take (size_of r) (drop at s)) × (start_of at r ≡ at)
-    go (found w l f) k = (l, refl, refl)
-    go (end w l f) k = absurd (k refl)
-    go no_record k = absurd (k refl)
-    go (no_seed a l) k = absurd (k refl)
+found_part s at r next e =
+    let f = found_at s at r next e in
+    let n : next - at ≡ 16 = omega (arith, f.0) in
+    rw (e, n) (refl, refl)

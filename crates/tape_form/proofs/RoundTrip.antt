@@ -26,7 +26,7 @@ use Rattle.record.proofs.Faults.{own_fault, unfaulted}
 use Rattle.tape_form.specs.Write.{write_code, write_of}
 use Rattle.tape_form.specs.Read.{Read, judged, read_of, part_at}
 use Rattle.tape_form.proofs.Writing.{accepted, accepts, write_not, write_is}
-use Rattle.tape_form.proofs.Reading.{judged_is, read_judged, sixteen, Stands, stands, found, end, no_record, no_seed}
+use Rattle.tape_form.proofs.Reading.{one_found, judged_is, read_judged, sixteen, Stands, stands, found, end, no_record, no_seed}
 
 -- ---- What the writer takes
 
@@ -113,10 +113,6 @@ length_kept s at r = go (write_code (length s) at r) refl
     go (Err x) e = ap (λ (l : List ℕ). length l) (write_not s at r e)
 
 -- ---- Read, then written
-
--- two answers that are one have one record and one place
-one_found : {r q : Record} {m n : ℕ} → ◌≡◌ {A = Read} (Ok (Some (r, m))) (Ok (Some (q, n))) → (r ≡ q) × (m ≡ n)
-one_found {r} {q} {m} {n} e = let p : ◌≡◌ {A = Record × ℕ} (r, m) (q, n) = cc in (ap (λ (x : Record × ℕ). x.0) p, ap (λ (x : Record × ℕ). x.1) p)
 
 -- what is known of a record that is found
 pub record IsThere (s : List ℕ) (at : ℕ) (r : Record) (next : ℕ) : Type 0 where
