@@ -41,6 +41,13 @@ answered at p = go (eqb at 0) refl (marked p) (header_fields (record_of p)) (is_
     go false e true h v false = wrong
     go false e false h v k = wrong
 
+-- bytes without the mark, and with it
+pub unmarked_fault : (at : ℕ) (p : List ℕ) → marked p ≡ false → bytes_fault at p ≡ Err NoRecord
+unmarked_fault at p m = rw m
+
+pub marked_fault : (at : ℕ) (p : List ℕ) → marked p ≡ true → bytes_fault at p ≡ fault_of at (record_of p)
+marked_fault at p m = rw m
+
 own_mark : (at : ℕ) (r : Record) → bytes_fault at (bytes_of r) ≡ fault_of at (record_of (bytes_of r))
 unfolding bytes_of
 own_mark at r = refl
