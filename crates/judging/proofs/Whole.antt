@@ -27,7 +27,7 @@ use Rattle.tape_form.proofs.Reading.{Stands, stands, found, end, no_record, no_s
 use Rattle.judge_verdict.specs.declared.Verdict.{Verdict}
 use Rattle.judge_verdict.specs.declared.Verdict.TheVariants.{Agrees, Refused as Malformed}
 use Rattle.judge_verdict.specs.declared.Judgement.{Judgement}
-use Rattle.std.specs.Prelude.{Option, Some, None, Ok, Err}
+use Rattle.std.specs.Prelude.{Option, Some, None, Ok, Err, is_some}
 use Rattle.rules.specs.declared.Refusal.{Refusal}
 use Rattle.rules.specs.declared.Refusal.TheVariants.{Record as NoRecord, Seed}
 use Rattle.rules.specs.Numbers as refusals
@@ -52,7 +52,7 @@ over_byte h b v e = go (eqb (length h.begun) 15)
   where
     go : (t : Bool) → (cond {A = Pending} t (record { run = onward h.run (h.begun ++ (b ∷ [])); begun = [] })
         (record { run = h.run; begun = h.begun ++ (b ∷ []) })).run ≡ h.run
-    go true = sym (onward_over h.run (h.begun ++ (b ∷ [])) v e)
+    go true = sym (onward_over h.run (h.begun ++ (b ∷ [])) (ap is_some e))
     go false = refl
 
 over_stays : (p : List ℕ) (h : Pending) (v : Verdict) → h.run.verdict ≡ Some v → (bytes h p).run ≡ h.run

@@ -155,6 +155,7 @@ impl Judge {
     }
 
     // The end of the tape.
+    #[tactic(auto, unfolding(crate::specs::Pieces::ended))]
     pub fn end(self) -> Judgement
         ensures { result ≡ pieces.ended self }
     {
