@@ -29,7 +29,7 @@ pub fn code_of<'a>(
 {
     let weights = p.weights;
     let code = generator_checks::refusal(started, seed, p.span, weights);
-    let sound = kernel::in_place::sound(
+    let sound = kernel::on_tables::sound(
         base, ready, delayed, held, way, until, ceiling, waiter, clock, started,
     );
     numbers::choose(!sound, 1, code)
@@ -139,7 +139,7 @@ pub fn draw_and_step(
         return Carried { drawn, answer };
     }
     let c = drawn.command;
-    let answer = kernel::in_place::step_trusting(
+    let answer = kernel::on_tables::step_trusting(
         base, ready, delayed, held, way, until, ceiling, waiter, clock, started, c,
     );
     Carried { drawn, answer }

@@ -125,7 +125,7 @@ pub fn draw_and_step(
         return Carried { drawn, answer };
     }
     let c = drawn.command;
-    let answer = kernel::in_place::step_trusting(
+    let answer = kernel::on_tables::step_trusting(
         base, ready, delayed, held, way, until, ceiling, waiter, clock, started, c,
     );
     Carried { drawn, answer }

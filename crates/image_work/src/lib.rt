@@ -67,7 +67,7 @@ fn step_on(
     ) {
         return no_state();
     }
-    kernel::in_place::step(
+    kernel::on_tables::step(
         base, ready, delayed, held, way, until, ceiling, waiter, clock, started, c,
     )
 }

@@ -8,7 +8,7 @@ ghost use Rattle.judge_pieces.specs.Onward.{run_of};
 
 use judge_record::{command_of, compared, headed, refused};
 use judge_verdict::Head;
-use kernel::in_place::step_trusting;
+use kernel::on_tables::step_trusting;
 use record::fault;
 use record_bytes::{is_marked, record_of};
 use record_kept::Kept;

@@ -13,15 +13,8 @@ use Rattle.kernel_line.specs.Tables.{place, pop, later, with_time}
 use Rattle.kernel_ready.specs.Ready.{runner_in, popped, to_tail, released_line}
 use Rattle.kernel_close.specs.Moves.{waits_in, closed_line}
 use Rattle.kernel.specs.declared.Kernel.{Kernel}
-use Rattle.kernel.specs.declared.Stepped.{Stepped}
-use Rattle.kernel.specs.Lent.{tables, Ends}
-use Rattle.kernel.specs.Public.{running_of}
-use Rattle.kernel.specs.Step.{runner_of, accepted, carried_as, slept_of, yielded_of, advanced_of, woken_of, held_of, awaiting_of, served_of, closed_of, closing_of}
-use Rattle.kernel.specs.Step.{with_clock, grown}
-
--- tables and a released task are the state and the answer of a step
-abbrev pub Carried : Kernel → ℕ → Stepped → Type 0
-Carried k t s = Ends k (accepted (running_of k) t) s
+use Rattle.kernel.specs.Step.{Carried, runner_of, carried_as, slept_of, yielded_of, advanced_of, woken_of, held_of, awaiting_of, served_of, closed_of, closing_of}
+use Rattle.kernel.specs.Step.{grown}
 
 -- a command of a kind is carried out as that kind is
 pub as_kind : (j k : Kind) (m : Kernel) (c : Command) → k ≡ j → (n : Kernel) (t : ℕ) → Carried n t (carried_as j m c) → Carried n t (carried_as k m c)
@@ -37,30 +30,38 @@ unmoved n = let z : n + 0 ≡ n = omega arith in sym (rw z (either (ltb n (2 ^ 6
 
 still : (k : Kernel) → k ≡ (advanced_of k 0).next
 unfolding advanced_of
-still k = ap (λ (n : ℕ). with_clock k n) (unmoved k.clock)
+still k = ap (λ (n : ℕ). record k { clock = n }) (unmoved k.clock)
 
 module _ (k : Kernel) where
   pub delays : (v : ℕ) (b : Bool) → Carried
-      (tables k.base (cond b (popped k.ready) (to_tail k.base k.ceiling k.held (runner_of k) (popped k.ready)))
-      (cond b (place (later k.until v) (runner_of k) k.delayed) k.delayed) k.held k.way
-      (cond b (with_time k.until (runner_of k) v) k.until) k.ceiling k.waiter k.clock k.started)
+      (record k {
+        ready = cond b (popped k.ready) (to_tail k.base k.ceiling k.held (runner_of k) (popped k.ready));
+        delayed = cond b (place (later k.until v) (runner_of k) k.delayed) k.delayed;
+        until = cond b (with_time k.until (runner_of k) v) k.until;
+      })
       0 (cond b (slept_of k v) (yielded_of k))
   unfolding slept_of yielded_of
   delays v true = (refl, refl)
   delays v false = (refl, refl)
 
   pub wakes : (t : ℕ) (b : Bool) → eqb t 0 ≡ b → Carried
-      (tables k.base (cond b k.ready (to_tail k.base k.ceiling k.held t k.ready)) (cond b k.delayed (pop k.delayed)) k.held k.way
-      (cond b k.until (with_time k.until t 0)) k.ceiling k.waiter k.clock k.started)
+      (record k {
+        ready = cond b k.ready (to_tail k.base k.ceiling k.held t k.ready);
+        delayed = cond b k.delayed (pop k.delayed);
+        until = cond b k.until (with_time k.until t 0);
+      })
       t (cond b (advanced_of k 0) (woken_of k t))
   unfolding advanced_of woken_of
   wakes t true e = (still k, rw (eqb-true t 0 e))
   wakes t false e = (refl, refl)
 
   pub enters : (o : ℕ) (b : Bool) → Carried
-      (tables k.base (cond b k.ready (popped k.ready)) k.delayed (cond b (set k.held (runner_of k) o) k.held)
-      (cond b (set k.way (runner_of k) for_entry) k.way) k.until k.ceiling (cond b k.waiter (set k.waiter o (runner_of k)))
-      k.clock k.started)
+      (record k {
+        ready = cond b k.ready (popped k.ready);
+        held = cond b (set k.held (runner_of k) o) k.held;
+        way = cond b (set k.way (runner_of k) for_entry) k.way;
+        waiter = cond b k.waiter (set k.waiter o (runner_of k));
+      })
       0 (cond b (held_of k o for_entry) (awaiting_of k o))
   unfolding held_of awaiting_of
   enters o true = (refl, refl)
@@ -71,8 +72,12 @@ module _ (k : Kernel) where
   line t b = cond b k.ready (to_tail k.base k.ceiling k.held t k.ready)
 
   closes : (o t : ℕ) (b : Bool) → eqb t 0 ≡ b → Carried
-      (tables k.base (closed_line k.base k.ceiling k.held (line t b)) k.delayed (set k.held (runner_in (line t b)) 0)
-      (set k.way (runner_in (line t b)) 0) k.until k.ceiling (cond b k.waiter (set k.waiter o 0)) k.clock k.started)
+      (record k {
+        ready = closed_line k.base k.ceiling k.held (line t b);
+        held = set k.held (runner_in (line t b)) 0;
+        way = set k.way (runner_in (line t b)) 0;
+        waiter = cond b k.waiter (set k.waiter o 0);
+      })
       t (cond b (closed_of k 0) (closed_of (served_of k o t) t))
   unfolding closed_of served_of
   closes o t true e = (refl, rw (eqb-true t 0 e))
@@ -82,9 +87,12 @@ module _ (k : Kernel) where
   pub ending : (o : ℕ) (serves : Bool) →
       let t = waits_in k.waiter o serves in
       let l = released_line k.base k.ceiling k.held t k.ready in Carried
-      (tables k.base (closed_line k.base k.ceiling k.held l) k.delayed (set k.held (runner_in l) 0) (set k.way (runner_in l) 0) k.until
-      k.ceiling
-      (cond (eqb t 0) k.waiter (set k.waiter o 0)) k.clock k.started)
+      (record k {
+        ready = closed_line k.base k.ceiling k.held l;
+        held = set k.held (runner_in l) 0;
+        way = set k.way (runner_in l) 0;
+        waiter = cond (eqb t 0) k.waiter (set k.waiter o 0);
+      })
       t (closing_of k o serves)
   unfolding closing_of
   ending o serves = let t = waits_in k.waiter o serves in closes o t (eqb t 0) refl

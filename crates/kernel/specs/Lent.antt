@@ -1,10 +1,8 @@
 -- The ten tables that a caller lends, as the state that they are: before the call and behind it.
-use Rattle.std.specs.Prelude.{ℕ, ◌≡◌, Bool, List}
+use Rattle.std.specs.Prelude.{ℕ, Bool, List}
 use Rattle.std.specs.Borrow.{Bor, MutBor}
 use denote.Triple.Both.{Both}
 use Rattle.kernel.specs.declared.Kernel.{Kernel}
-use Rattle.kernel.specs.declared.Stepped.{Stepped}
-use Rattle.kernel.specs.declared.command.Answer.{Answer}
 
 abbrev pub tables : List ℕ → List ℕ → List ℕ → List ℕ → List ℕ → List ℕ → List ℕ → List ℕ → ℕ → Bool → Kernel
 tables b r d h w u c q n s =
@@ -48,7 +46,3 @@ left b r d h w u c q n s =
 abbrev pub seen : Shown → Shown → Shown → Shown → Shown → Shown → List ℕ → List ℕ → ℕ → Bool → Kernel
 seen b r d h w u c q n s =
     tables b.entry.now r.entry.now d.entry.now h.entry.now w.entry.now u.entry.now c q n s
-
--- A state and an answer are those of a step.
-abbrev pub Ends : Kernel → Answer → Stepped → Type 0
-Ends k a s = (k ≡ s.next) × (a ≡ s.answer)

@@ -1,5 +1,5 @@
 -- The step and the question "Wakes left" on tables, as the rules say it: what the public contracts cite.
-use Rattle.std.specs.Prelude.{ℕ, Bool, cond, ◌&&◌}
+use Rattle.std.specs.Prelude.{ℕ, ◌≡◌, Bool, cond, ◌&&◌}
 use Rattle.rules.specs.Machine.{Command}
 use Rattle.rules.specs.Run.{next, answer, question}
 use Rattle.rules.specs.Run as R
@@ -24,6 +24,10 @@ answer_of n x t = record { code = n; running = record { 0 = x }; released = reco
 -- A state with an answer of the rules.
 abbrev pub report : Kernel → R.Answer → Stepped
 report k a = record { next = k; answer = answer_of a.code a.running a.released }
+
+-- A state and an answer are those of a step.
+abbrev pub Ends : Kernel → Answer → Stepped → Type 0
+Ends k a s = (k ≡ s.next) × (a ≡ s.answer)
 
 -- Shape: 1, 0, 0.
 abbrev pub shape : R.Answer

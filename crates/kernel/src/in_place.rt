@@ -1,12 +1,12 @@
-// The step and the test on lent tables: an accepted command is carried out where they lie, a refused one leaves them as
-// they are. (What each op does to them: crates kernel_ops, kernel_close, kernel_time and kernel_wake. When it is
+// The step and the test where a lent state lies: an accepted command is carried out there, a refused one leaves it as
+// it is. (What each op does to the tables: crates kernel_ops, kernel_close, kernel_time and kernel_wake. When it is
 // refused: crate kernel_checks.)
-ghost use Rattle.std.specs.Prelude.{ℕ, ◌<◌, ◌^◌, ◌≡◌, length};
+ghost use Rattle.std.specs.Prelude.{ℕ, ◌<◌, ◌^◌, ◌≡◌};
 ghost use Rattle.rules.specs.Line.{at};
-ghost use Rattle.kernel.specs.Lent.{lent, left, seen, Ends};
-ghost use Rattle.kernel.specs.Public.{to_rules, is_sound, step_of, running_of};
+ghost use Rattle.kernel.specs.Public.{Ends, to_rules, is_sound, step_of, running_of};
 ghost use Rattle.kernel.specs.Step as step;
 
+use crate::Kernel;
 use crate::command::Answer;
 use kernel_checks::{Command, Kind};
 use kernel_line::{POId, TaskID};
@@ -23,7 +23,7 @@ pub(crate) fn refused(code: u8, running: TaskID) -> Answer
 }
 
 // The answer to an accepted command: who runs behind it, and who is released.
-fn accepted(running: TaskID, released: u8) -> Answer
+pub(crate) fn accepted(running: TaskID, released: u8) -> Answer
     ensures { result ≡ step.accepted running.0 released }
 {
     Answer {
@@ -33,148 +33,145 @@ fn accepted(running: TaskID, released: u8) -> Answer
     }
 }
 
-// An accepted command, carried out: the released task, 0 for nobody.
-fn carry(
-    base: &mut [u8; 32],
-    ready: &mut [u8; 32],
-    delayed: &mut [u8; 32],
-    held: &mut [u8; 32],
-    way: &mut [u8; 32],
-    until: &mut [u64; 32],
-    ceiling: &mut [u8; 8],
-    waiter: &mut [u8; 8],
-    clock: &mut u64,
-    started: &mut bool,
-    k: Kind,
-    c: Command,
-) -> u8
-    ensures { let behind = left base ready delayed held way until ceiling waiter clock started in
-        Ends behind (step.accepted (running_of behind) result)
-        (step.carried_as k (lent base ready delayed held way until ceiling waiter clock started) (to_rules c)) }
+// The running task: 0 before Start.
+pub fn running(k: &Kernel) -> TaskID
+    ensures { result ≡ record { 0 = running_of k.now } }
 {
-    let tops = *ceiling;
-    match k {
+    kernel_ready::running(k.started, &k.ready)
+}
+
+// The ops that are lent four tables or more, each as its row of specs/Step; the answer is the released task, 0 for
+// nobody.
+fn create(k: &mut Kernel, t: TaskID, p: u8) -> u8
+    ensures { step.Carried k.new result (step.created_of k.old t.0 p) }
+{
+    kernel_ops::create(&mut k.base, &mut k.ready, k.ceiling, &k.held, t, p)
+}
+
+fn delay(k: &mut Kernel, time: u64) -> u8
+    ensures { step.Carried k.new result (step.delayed_of k.old time) }
+{
+    kernel_time::delay(
+        &k.base,
+        &mut k.ready,
+        &mut k.delayed,
+        &k.held,
+        &mut k.until,
+        k.ceiling,
+        k.clock,
+        time,
+    )
+}
+
+fn wake(k: &mut Kernel) -> u8
+    ensures { step.Carried k.new result (step.wake_of k.old) }
+{
+    kernel_wake::wake(
+        &k.base,
+        &mut k.ready,
+        &mut k.delayed,
+        &k.held,
+        &mut k.until,
+        k.ceiling,
+        k.clock,
+    )
+}
+
+fn enter(k: &mut Kernel, o: POId, barrier: u8) -> u8
+    ensures { step.Carried k.new result (step.entered_of k.old o.0 barrier) }
+{
+    kernel_ops::enter(
+        &mut k.ready,
+        &mut k.held,
+        &mut k.way,
+        &mut k.waiter,
+        o,
+        barrier,
+    )
+}
+
+fn end(k: &mut Kernel, o: POId, serves: bool) -> u8
+    ensures { step.Carried k.new result (step.closing_of k.old o.0 serves) }
+{
+    kernel_close::end(
+        &k.base,
+        &mut k.ready,
+        &mut k.held,
+        &mut k.way,
+        k.ceiling,
+        &mut k.waiter,
+        o,
+        serves,
+    )
+}
+
+// An accepted command, carried out.
+fn carry(k: &mut Kernel, kind: Kind, c: Command) -> u8
+    ensures { step.Carried k.new result (step.carried_as kind k.old (to_rules c)) }
+{
+    match kind {
         Kind::NoKind => 0,
-        Kind::Creating => kernel_ops::create(base, ready, tops, held, TaskID(c.a), c.b),
-        Kind::Declaring => kernel_ops::declare(ceiling, POId(c.a), c.b),
-        Kind::Starting => kernel_ops::begin(started),
-        Kind::Delaying => kernel_time::delay(
-            base, ready, delayed, held, until, tops, *clock, c.value,
-        ),
-        Kind::Waking => kernel_wake::wake(base, ready, delayed, held, until, tops, *clock),
-        Kind::Advancing => kernel_time::advance(clock, c.value),
-        Kind::Opening => kernel_ops::hold(ready, held, way, POId(c.a), rules::FOR_OPEN),
-        Kind::Entering => kernel_ops::enter(ready, held, way, waiter, POId(c.a), c.b),
-        Kind::Ending(e) => {
-            let serves = e.serves & (c.b == 1);
-            kernel_close::end(base, ready, held, way, tops, waiter, POId(c.a), serves)
+        Kind::Creating => create(k, TaskID(c.a), c.b),
+        Kind::Declaring => kernel_ops::declare(&mut k.ceiling, POId(c.a), c.b),
+        Kind::Starting => kernel_ops::begin(&mut k.started),
+        Kind::Delaying => delay(k, c.value),
+        Kind::Waking => wake(k),
+        Kind::Advancing => kernel_time::advance(&mut k.clock, c.value),
+        Kind::Opening => {
+            kernel_ops::hold(
+                &k.ready,
+                &mut k.held,
+                &mut k.way,
+                POId(c.a),
+                rules::FOR_OPEN,
+            )
         }
+        Kind::Entering => enter(k, POId(c.a), c.b),
+        Kind::Ending(e) => end(k, POId(c.a), e.serves & (c.b == 1)),
     }
 }
 
-// The step that trusts the tables to be those of a sound state, and does not test them. Any tables get one answer,
-// which for those of a forged state is no step of document 01.
-pub fn step_trusting(
-    base: &mut [u8; 32],
-    ready: &mut [u8; 32],
-    delayed: &mut [u8; 32],
-    held: &mut [u8; 32],
-    way: &mut [u8; 32],
-    until: &mut [u64; 32],
-    ceiling: &mut [u8; 8],
-    waiter: &mut [u8; 8],
-    clock: &mut u64,
-    started: &mut bool,
-    c: Command,
-) -> Answer
-    ensures { Ends (left base ready delayed held way until ceiling waiter clock started) result
-        (step.stepped_of (lent base ready delayed held way until ceiling waiter clock started) (to_rules c)) }
+// The step that trusts the state to be sound, and does not test it. Any state gets one answer, which for a forged one is
+// no step of document 01.
+pub fn step_trusting(k: &mut Kernel, c: Command) -> Answer
+    ensures { Ends k.new result (step.stepped_of k.old (to_rules c)) }
 {
-    let tops = *ceiling;
-    let waits = *waiter;
-    let k = c.kind();
-    let code = kernel_checks::refusal(base, ready, held, way, tops, waits, *clock, *started, k, c);
-    if code != 0 {
-        let shown = kernel_ready::running(*started, ready);
-        return refused(code, shown);
-    }
-    let t = carry(
-        base, ready, delayed, held, way, until, ceiling, waiter, clock, started, k, c,
+    let kind = c.kind();
+    let code = kernel_checks::refusal(
+        &k.base, &k.ready, &k.held, &k.way, k.ceiling, k.waiter, k.clock, k.started, kind, c,
     );
-    let shown = kernel_ready::running(*started, ready);
-    accepted(shown, t)
+    if code != 0 {
+        return refused(code, running(k));
+    }
+    let released = carry(k, kind, c);
+    accepted(running(k), released)
 }
 
-// What the types of lent tables say, told to the logic: it knows the length of an array that is looked at as a slice,
-// and that each number there fits. It costs nothing.
-fn sized(
-    base: &[u8; 32],
-    ready: &[u8; 32],
-    delayed: &[u8; 32],
-    held: &[u8; 32],
-    way: &[u8; 32],
-    until: &[u64; 32],
-)
-    ensures { (length base.now ≡ 32) × (length ready.now ≡ 32)
-        × (length delayed.now ≡ 32) × (length held.now ≡ 32)
-        × (length way.now ≡ 32) × (length until.now ≡ 32)
-        × ((t : ℕ) → at until.now t < 2 ^ 64) }
+// What the type says of the times, told to the logic, which learns from a read that each number there fits. It costs
+// nothing.
+fn timed(until: &[u64; 32])
+    ensures { (t : ℕ) → at until.now t < 2 ^ 64 }
 {
-    let bases: &[u8] = base;
-    let readies: &[u8] = ready;
-    let sleepers: &[u8] = delayed;
-    let hands: &[u8] = held;
-    let ways: &[u8] = way;
-    let times: &[u64] = until;
-    let first = times[0];
+    let first = until[0];
 }
 
 // The test of a saved state: document 01's conditions hold, and every unused cell is 0.
-pub fn sound<'a>(
-    base: &'a [u8; 32],
-    ready: &'a [u8; 32],
-    delayed: &'a [u8; 32],
-    held: &'a [u8; 32],
-    way: &'a [u8; 32],
-    until: &'a [u64; 32],
-    ceiling: [u8; 8],
-    waiter: [u8; 8],
-    clock: u64,
-    started: bool,
-) -> bool
-    ensures { result ≡ is_sound (seen base ready delayed held way until ceiling waiter clock started) }
+pub fn sound(k: &Kernel) -> bool
+    ensures { result ≡ is_sound k.now }
 {
-    sized(base, ready, delayed, held, way, until);
+    timed(&k.until);
     kernel_sound::tested(
-        base, ready, delayed, held, way, until, ceiling, waiter, clock, started,
+        &k.base, &k.ready, &k.delayed, &k.held, &k.way, &k.until, k.ceiling, k.waiter, k.clock,
+        k.started,
     )
 }
 
-// The step: tables that are not those of a sound state are answered 1, 0, 0 and stay as they are.
-pub fn step(
-    base: &mut [u8; 32],
-    ready: &mut [u8; 32],
-    delayed: &mut [u8; 32],
-    held: &mut [u8; 32],
-    way: &mut [u8; 32],
-    until: &mut [u64; 32],
-    ceiling: &mut [u8; 8],
-    waiter: &mut [u8; 8],
-    clock: &mut u64,
-    started: &mut bool,
-    c: Command,
-) -> Answer
-    ensures { Ends (left base ready delayed held way until ceiling waiter clock started) result
-        (step_of (lent base ready delayed held way until ceiling waiter clock started) (to_rules c)) }
+// The step: a state that is not sound is answered 1, 0, 0 and stays as it is.
+pub fn step(k: &mut Kernel, c: Command) -> Answer
+    ensures { Ends k.new result (step_of k.old (to_rules c)) }
 {
-    let tops = *ceiling;
-    let waits = *waiter;
-    if !sound(
-        base, ready, delayed, held, way, until, tops, waits, *clock, *started,
-    ) {
+    if !sound(k) {
         return refused(1, TaskID(0));
     }
-    step_trusting(
-        base, ready, delayed, held, way, until, ceiling, waiter, clock, started, c,
-    )
+    step_trusting(k, c)
 }

@@ -1,5 +1,5 @@
-// The kernel by value: its tables, the step, and the question "Wakes left". (The test of a saved state and
-// a step lend the tables: in_place.)
+// The kernel: its tables, the step and the test of a saved state, and the question "Wakes left". By value here, and
+// where a lent state lies in in_place.
 #![tactic(auto)]
 
 ghost use Rattle.std.specs.Prelude.{◌≡◌};
@@ -10,14 +10,16 @@ ghost use Rattle.kernel.specs.Step as step;
 
 mod command;
 pub mod in_place;
+pub mod on_tables;
 
 pub use command::Answer;
 pub use kernel_checks::Command;
 pub use kernel_line::{POId, TaskID};
+use rules::Refusal;
 
 // Tables are indexed by the task 0..31 or by the object 0..7. A line ends at its first 0: idle is last in the ready
 // line, and never delayed.
-#[derive(Clone, Copy)]
+#[derive(Clone, Copy, PartialEq, Eq)]
 pub struct Kernel {
     // each task's base priority: 0 for idle, and for a task that is not created
     pub base: [u8; 32],
@@ -45,8 +47,9 @@ pub struct Stepped {
     pub answer: Answer,
 }
 
-// The answer to "Wakes left".
-#[derive(Clone, Copy)]
+// The answer to "Wakes left": the number of the refusal, 0 for none; and the count, 0 where it is refused.
+// Kept (promise): two numbers, as document 01 answers (left_of); inside, the count is a Result (wakes_counted).
+#[derive(Clone, Copy, PartialEq, Eq)]
 pub struct Left {
     pub code: u8,
     pub left: u8,
@@ -83,18 +86,7 @@ impl Kernel {
     pub fn sound(self) -> bool
         ensures { result ≡ is_sound self }
     {
-        in_place::sound(
-            &self.base,
-            &self.ready,
-            &self.delayed,
-            &self.held,
-            &self.way,
-            &self.until,
-            self.ceiling,
-            self.waiter,
-            self.clock,
-            self.started,
-        )
+        in_place::sound(&self)
     }
 
     // A state that is not sound is answered 1, 0, 0 and comes back as it is; a refused command its number and the same
@@ -102,41 +94,8 @@ impl Kernel {
     pub fn step(self, c: Command) -> Stepped
         ensures { result ≡ step_of self (to_rules c) }
     {
-        let mut base = self.base;
-        let mut ready = self.ready;
-        let mut delayed = self.delayed;
-        let mut held = self.held;
-        let mut way = self.way;
-        let mut until = self.until;
-        let mut ceiling = self.ceiling;
-        let mut waiter = self.waiter;
-        let mut clock = self.clock;
-        let mut started = self.started;
-        let answer = in_place::step(
-            &mut base,
-            &mut ready,
-            &mut delayed,
-            &mut held,
-            &mut way,
-            &mut until,
-            &mut ceiling,
-            &mut waiter,
-            &mut clock,
-            &mut started,
-            c,
-        );
-        let next = Kernel {
-            base,
-            ready,
-            delayed,
-            held,
-            way,
-            until,
-            ceiling,
-            waiter,
-            clock,
-            started,
-        };
+        let mut next = self;
+        let answer = in_place::step(&mut next, c);
         Stepped { next, answer }
     }
 
@@ -145,27 +104,33 @@ impl Kernel {
     pub fn wakes_left(self, t: TaskID) -> Left
         ensures { result ≡ left_of self t.0 }
     {
-        if !self.sound() {
-            return Left { code: 1, left: 0 };
+        match self.wakes_counted(t) {
+            Ok(left) => Left { code: 0, left },
+            Err(refusal) => Left {
+                code: refusal.number(),
+                left: 0,
+            },
         }
-        if t.0 == Kernel::IDLE.0 {
-            return Left { code: 4, left: 0 };
+    }
+
+    // The same count, or the refusal of the question.
+    fn wakes_counted(&self, t: TaskID) -> Result<u8, Refusal>
+        ensures { step.left_as result ≡ left_of self.now t.0 }
+    {
+        if !in_place::sound(self) {
+            return Err(Refusal::Shape);
         }
-        if Kernel::LAST_TASK.0 < t.0 {
-            return Left { code: 4, left: 0 };
+        if (t.0 == Kernel::IDLE.0) | (Kernel::LAST_TASK.0 < t.0) {
+            return Err(Refusal::Range);
         }
         if kernel_line::of_task(&self.base, t) == 0 {
-            return Left { code: 6, left: 0 };
+            return Err(Refusal::Missing);
         }
-        let delayed = self.delayed;
-        Left {
-            code: 0,
-            left: due_count(
-                kernel_line::lead_task(delayed, t),
-                kernel_line::time_of(&self.until, t),
-                self.clock,
-            ),
-        }
+        Ok(due_count(
+            kernel_line::lead_task(self.delayed, t),
+            kernel_line::time_of(&self.until, t),
+            self.clock,
+        ))
     }
 }
 
@@ -173,9 +138,9 @@ impl Kernel {
 fn due_count(ahead: u8, time: u64, clock: u64) -> u8
     ensures { result ≡ step.due_count ahead time clock }
 {
-    numbers::choose(
-        (ahead < 32) & (time <= clock),
-        kernel_line::one_more(ahead),
-        0,
-    )
+    if (ahead < 32) & (time <= clock) {
+        ahead + 1
+    } else {
+        0
+    }
 }

@@ -1,6 +1,6 @@
 -- What is timed: the shipped step over a stream of commands, and a number that gathers all its answers. Assumes
 -- nothing.
-use Rattle.std.specs.Prelude.{ℕ, zero, suc, ◌+◌, ◌*◌, ◌/◌, ◌%◌, ◌^◌, Bool, cond, List, length, nat_lt}
+use Rattle.std.specs.Prelude.{ℕ, zero, suc, ◌+◌, ◌*◌, ◌/◌, ◌%◌, ◌^◌, Bool, cond, List, length, min}
 use Rattle.rules.specs.Line.{at}
 use Rattle.rules_exceptions.specs.Exceptions.{fresh}
 use Rattle.kernel_state.specs.declared.State.{State}
@@ -35,11 +35,8 @@ turn_of g c =
 abbrev pub command_at : List ℕ → List ℕ → List ℕ → List ℕ → ℕ → Command
 command_at ops a b values i = record { op = at ops i; a = at a i; b = at b i; value = at values i }
 
-abbrev pub lesser : ℕ → ℕ → ℕ
-lesser x y = cond (nat_lt y x) y x
-
 abbrev pub count_of : List ℕ → List ℕ → List ℕ → List ℕ → ℕ
-count_of ops a b values = lesser (lesser (length ops) (length a)) (lesser (length b) (length values))
+count_of ops a b values = min (min (length ops) (length a)) (min (length b) (length values))
 
 -- behind so many commands from the fresh machine
 abbrev pub ran_of : List ℕ → List ℕ → List ℕ → List ℕ → ℕ → ℕ → Gathered

@@ -5,7 +5,7 @@ ghost use Rattle.std.specs.Prelude.{◌≡◌, ◌%◌, ◌≤◌};
 ghost use Rattle.kernel_bench.specs.Stream as stream;
 
 use kernel::Command;
-use kernel_state::State;
+use kernel_state::{Answer, State};
 
 // What an exception that is shown adds to an answer's number.
 fn shown(exception: bool) -> u64
@@ -15,23 +15,14 @@ fn shown(exception: bool) -> u64
 }
 
 // A number that changes with any answer, on top of what was gathered.
-fn mixed(sum: u64, code: u8, running: u8, released: u8, exception: bool) -> u64
-    ensures { result ≡ stream.mixed_of sum code running released exception }
+fn mixed(sum: u64, answer: Answer) -> u64
+    ensures { result ≡ stream.mixed_of sum answer.code answer.running.0 answer.released.0 answer.exception }
 {
-    let turned = std::num::wrapping_add_u64(
-        sum % 576460752303423488 * 31,
-        sum / 576460752303423488,
-    );
-    std::num::wrapping_add_u64(
-        turned,
-        code as u64 + 256 * (running as u64) + 65536 * (released as u64) + shown(exception),
-    )
-}
-
-fn lesser(x: usize, y: usize) -> usize
-    ensures { result ≡ stream.lesser x y }
-{
-    if y < x { y } else { x }
+    let turned = (sum % 576460752303423488 * 31).wrapping_add(sum / 576460752303423488);
+    let code = u64::from(answer.code);
+    let running = u64::from(answer.running.0);
+    let released = u64::from(answer.released.0);
+    turned.wrapping_add(code + 256 * running + 65536 * released + shown(answer.exception))
 }
 
 // Runs the commands, a slice for each of their numbers, from the fresh machine: a gathering of all answers and of the
@@ -41,28 +32,19 @@ pub extern "C" fn bench_run(ops: &[u8], a: &[u8], b: &[u8], values: &[u64], sum:
     ensures { result ≡ stream.gathered ops.now a.now b.now
         values.now sum }
 {
-    let n = lesser(lesser(ops.len(), a.len()), lesser(b.len(), values.len()));
+    let n = ops.len().min(a.len()).min(b.len().min(values.len()));
     let mut k = State::fresh();
     let mut total = sum;
-    let mut i = 0;
-    while i < n {
+    for i in 0..n {
         let c = Command {
             op: ops[i],
             a: a[i],
             b: b[i],
             value: values[i],
         };
-        let r = k.step(c);
-        total = mixed(
-            total,
-            r.answer.code,
-            r.answer.running.0,
-            r.answer.released.0,
-            r.answer.exception,
-        );
-        let next = r.next;
-        k = next;
-        i += 1;
+        let done = k.step(c);
+        total = mixed(total, done.answer);
+        k = done.next;
     }
-    std::num::wrapping_add_u64(total, k.kernel.clock)
+    total.wrapping_add(k.kernel.clock)
 }

@@ -18,50 +18,12 @@
 
 use kernel::{Command, Kernel, TaskID};
 use kernel_state::State;
-use numbers::wide;
 use std::io;
 use std::io::Read;
 
 mod words;
 
 use words::Words;
-
-// The first words, and the names of the tables, as `Words` has them.
-const DO: u64 = 0x646f;
-
-const EACH: u64 = 0x65616368;
-
-const ASK: u64 = 0x61736b;
-
-const FRESH: u64 = 0x6672657368;
-
-const KEEP: u64 = 0x6b656570;
-
-const TAKE: u64 = 0x74616b65;
-
-const PUT: u64 = 0x707574;
-
-const SPOIL: u64 = 0x73706f696c;
-
-const BASE: u64 = 0x62617365;
-
-const READY: u64 = 0x7265616479;
-
-const DELAYED: u64 = 0x64656c61796564;
-
-const HELD: u64 = 0x68656c64;
-
-const WAY: u64 = 0x776179;
-
-const UNTIL: u64 = 0x756e74696c;
-
-const CEILING: u64 = 0x6365696c696e67;
-
-const WAITER: u64 = 0x776169746572;
-
-const CLOCK: u64 = 0x636c6f636b;
-
-const PENDING: u64 = 0x70656e64696e67;
 
 // The machine at hand, the one that was kept or taken last, and those that are kept: N stands at N mod 4.
 #[derive(Clone, Copy)]
@@ -71,38 +33,11 @@ struct Bench {
     kept: [State; 4],
 }
 
-fn same_times(a: [u64; 32], b: [u64; 32]) -> bool {
-    let mut i = 0;
-    while i < 32 {
-        if a[i] != b[i] {
-            return false;
-        }
-        i += 1;
-    }
-    true
-}
+// A word as its bytes, with zeros before them.
+type Word = [u8; 8];
 
-fn same_tables(j: Kernel, k: Kernel) -> bool {
-    let lines = (j.ready == k.ready) & (j.delayed == k.delayed);
-    let hands = (j.held == k.held) & (j.way == k.way);
-    let set_up = (j.base == k.base) & (j.ceiling == k.ceiling) & (j.waiter == k.waiter);
-    let a = j.until;
-    let b = k.until;
-    lines & hands & set_up & same_times(a, b) & (j.clock == k.clock) & (j.started == k.started)
-}
-
-fn same(s: State, t: State) -> bool {
-    let j = s.kernel;
-    let k = t.kernel;
-    same_tables(j, k) & (s.pending == t.pending)
-}
-
-fn shown(rt: &impl Print, n: u64) -> io::Result<()> {
-    print!(rt; "{n} ")
-}
-
-fn shown_last(rt: &impl Print, n: u64) -> io::Result<()> {
-    println!(rt; "{n}")
+fn spelt(word: u64) -> Word {
+    word.to_be_bytes()
 }
 
 fn command(w: Words) -> Command {
@@ -117,85 +52,83 @@ fn command(w: Words) -> Command {
 // Code, running, released and the exception of a command, and the state after it.
 fn answered(rt: &impl Print, k: State, c: Command) -> io::Result<State> {
     let r = k.step(c);
-    shown(rt, r.answer.code as u64)?;
-    shown(rt, r.answer.running.0 as u64)?;
-    shown(rt, r.answer.released.0 as u64)?;
-    shown(rt, r.answer.exception as u64)?;
+    let code = r.answer.code;
+    let running = r.answer.running.0;
+    let released = r.answer.released.0;
+    let exception = u8::from(r.answer.exception);
+    print!(rt; "{code} {running} {released} {exception}")?;
     Ok(r.next)
 }
 
 fn done(rt: &impl Print, k: State, c: Command) -> io::Result<State> {
     let next = answered(rt, k, c)?;
-    shown(rt, next.kernel.clock)?;
-    shown_last(rt, same(k, next) as u64)?;
+    let clock = next.kernel.clock;
+    let same = u8::from(k == next);
+    println!(rt; " {clock} {same}")?;
     Ok(next)
 }
 
 fn asked(rt: &impl Print, k: State, task: u64) -> io::Result<()> {
-    let left = k.wakes_left(TaskID((task % 256) as u8));
-    shown(rt, left.code as u64)?;
-    shown_last(rt, left.left as u64)
+    let count = k.wakes_left(TaskID((task % 256) as u8));
+    let code = count.code;
+    let left = count.left;
+    println!(rt; "{code} {left}")
 }
 
 fn each(rt: &impl Print, kept: [State; 4], c: Command) -> io::Result<()> {
-    let first = kept[1];
-    let second = kept[2];
-    let third = kept[3];
-    let fourth = kept[0];
-    answered(rt, first, c)?;
-    answered(rt, second, c)?;
-    answered(rt, third, c)?;
-    let r = fourth.step(c);
-    shown(rt, r.answer.code as u64)?;
-    shown(rt, r.answer.running.0 as u64)?;
-    shown(rt, r.answer.released.0 as u64)?;
-    shown_last(rt, r.answer.exception as u64)
+    for k in [kept[1], kept[2], kept[3]] {
+        answered(rt, k, c)?;
+        print!(rt; " ")?;
+    }
+    answered(rt, kept[0], c)?;
+    println!(rt; "")
 }
 
-fn prints(word: u64) -> bool {
-    (word == DO) | (word == EACH) | (word == ASK) | (word == SPOIL)
+// Whether a line with that first word prints anything.
+fn prints(word: Word) -> bool {
+    matches!(
+        &word,
+        b"\0\0\0\0\0\0do" | b"\0\0\0\0each" | b"\0\0\0\0\0ask" | b"\0\0\0spoil"
+    )
+}
+
+// A command of that op with no operands.
+fn bare(op: u8) -> Command {
+    Command {
+        op,
+        a: 0,
+        b: 0,
+        value: 0,
+    }
 }
 
 // What is said of a state.
 fn said(rt: &impl Print, k: State) -> io::Result<()> {
-    shown(rt, k.sound() as u64)?;
-    let next = answered(
-        rt,
-        k,
-        Command {
-            op: 6,
-            a: 0,
-            b: 0,
-            value: 0,
-        },
-    )?;
-    shown(rt, same(k, next) as u64)?;
-    let r = k.step(Command {
-        op: 0,
-        a: 0,
-        b: 0,
-        value: 0,
-    });
-    shown(rt, r.answer.code as u64)?;
+    let sound = u8::from(k.sound());
+    print!(rt; "{sound} ")?;
+    let next = answered(rt, k, bare(6))?;
+    let same = u8::from(k == next);
+    let code = k.step(bare(0)).answer.code;
+    print!(rt; " {same} {code} ")?;
     asked(rt, k, 1)
 }
 
 // A cell is set. (A place that a table does not have is one that it has.)
-fn put_cell(k: Kernel, table: u64, at: u64, value: u64) -> Kernel {
+fn put_cell(k: Kernel, table: Word, at: u64, value: u64) -> Kernel {
     let mut next = k;
     let t = (at % 32) as usize;
     let o = (at % 8) as usize;
     let v = (value % 256) as u8;
-    match table {
-        BASE => next.base[t] = v,
-        READY => next.ready[t] = v,
-        DELAYED => next.delayed[t] = v,
-        HELD => next.held[t] = v,
-        WAY => next.way[t] = v,
-        UNTIL => next.until[t] = value,
-        CEILING => next.ceiling[o] = v,
-        WAITER => next.waiter[o] = v,
-        CLOCK => next.clock = value,
+    match &table {
+        b"\0\0\0\0base" => next.base[t] = v,
+        b"\0\0\0ready" => next.ready[t] = v,
+        b"\0delayed" => next.delayed[t] = v,
+        b"\0\0\0\0held" => next.held[t] = v,
+        b"\0\0\0\0\0way" => next.way[t] = v,
+        b"\0\0\0until" => next.until[t] = value,
+        b"\0ceiling" => next.ceiling[o] = v,
+        b"\0\0waiter" => next.waiter[o] = v,
+        b"\0\0\0clock" => next.clock = value,
         _ => next.started = value == 1,
     }
     next
@@ -211,14 +144,12 @@ fn put_bit(pending: u32, at: u64, value: u64) -> u32 {
     }
 }
 
-fn put(s: State, table: u64, at: u64, value: u64) -> State {
+fn put(s: State, table: Word, at: u64, value: u64) -> State {
     let mut next = s;
-    if table == PENDING {
-        next.pending = put_bit(s.pending, at, value);
-        return next;
+    match &table {
+        b"\0pending" => next.pending = put_bit(s.pending, at, value),
+        _ => next.kernel = put_cell(s.kernel, table, at, value),
     }
-    let k = s.kernel;
-    next.kernel = put_cell(k, table, at, value);
     next
 }
 
@@ -250,15 +181,16 @@ impl Bench {
 
     fn spoilt(self, rt: &impl Print, w: Words) -> io::Result<Bench> {
         let k = self.hand;
-        said(rt, put(k, w.a, w.b, w.c))?;
+        said(rt, put(k, spelt(w.a), w.b, w.c))?;
         let last = self.last;
         Ok(self.with(last))
     }
 
     // A line of the table is carried out.
     fn told(self, rt: &impl Print, w: Words) -> io::Result<Bench> {
-        if prints(w.word) {
-            shown(rt, w.line)?;
+        if prints(spelt(w.word)) {
+            let line = w.line;
+            print!(rt; "{line} ")?;
         }
         self.carried(rt, w)
     }
@@ -266,19 +198,19 @@ impl Bench {
     fn carried(self, rt: &impl Print, w: Words) -> io::Result<Bench> {
         let k = self.hand;
         let kept = self.kept;
-        let word = w.word;
-        match word {
-            FRESH => Ok(self.with(State::fresh())),
-            DO => Ok(self.with(done(rt, k, command(w))?)),
-            PUT => Ok(self.with(put(k, w.a, w.b, w.c))),
-            KEEP => Ok(self.kept(w.a)),
-            TAKE => Ok(self.taken(w.a)),
-            SPOIL => self.spoilt(rt, w),
-            ASK => {
+        let word = spelt(w.word);
+        match &word {
+            b"\0\0\0fresh" => Ok(self.with(State::fresh())),
+            b"\0\0\0\0\0\0do" => Ok(self.with(done(rt, k, command(w))?)),
+            b"\0\0\0\0\0put" => Ok(self.with(put(k, spelt(w.a), w.b, w.c))),
+            b"\0\0\0\0keep" => Ok(self.kept(w.a)),
+            b"\0\0\0\0take" => Ok(self.taken(w.a)),
+            b"\0\0\0spoil" => self.spoilt(rt, w),
+            b"\0\0\0\0\0ask" => {
                 asked(rt, k, w.a)?;
                 Ok(self)
             }
-            EACH => {
+            b"\0\0\0\0each" => {
                 each(rt, kept, command(w))?;
                 Ok(self)
             }
@@ -287,12 +219,12 @@ impl Bench {
     }
 }
 
-// A byte of the input, or 256 at its end.
-fn byte(input: &mut impl Read) -> u64 {
+// A byte of the input, or none at its end.
+fn byte(input: &mut impl Read) -> Option<u8> {
     let mut one = [0u8; 1];
     match input.read(&mut one) {
-        Ok(1) => wide(one[0]),
-        _ => 256,
+        Ok(1) => Some(one[0]),
+        _ => None,
     }
 }
 
@@ -305,20 +237,17 @@ fn main(rt: HostRuntime) -> io::Result<()> {
         kept: [k; 4],
     };
     let mut w = Words::none(1);
-    // Nothing says that the input ends, so the loop counts down from a number that no run uses up.
-    let mut turns = u64::MAX;
-    let mut next = byte(&mut input);
-    while turns > 0 && next < 256 {
-        if next == 10 {
-            bench = bench.told(&rt, w.parted())?;
-            w = w.next_line();
-        } else if next == 32 {
-            w = w.parted();
-        } else {
-            w = w.longer(next);
+    // Nothing says that the input ends, so the turns are as many as no run uses up.
+    for _ in 0..u64::MAX {
+        match byte(&mut input) {
+            Some(b'\n') => {
+                bench = bench.told(&rt, w.parted())?;
+                w = w.next_line();
+            }
+            Some(b' ') => w = w.parted(),
+            Some(b) => w = w.longer(b),
+            None => break,
         }
-        next = byte(&mut input);
-        turns -= 1;
     }
     Ok(())
 }

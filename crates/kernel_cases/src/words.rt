@@ -4,7 +4,7 @@
 pub(crate) struct Words {
     // the number of the line, the first is 1
     pub line: u64,
-    // how many words came before the one that is being read, and what it is so far
+    // how many words came before the one that is being read, 255 for more; and what it is so far
     pub count: u8,
     pub now: u64,
     pub word: u64,
@@ -33,7 +33,7 @@ impl Words {
     }
 
     // With a byte more of the word that is being read.
-    pub(crate) fn longer(self, byte: u64) -> Words {
+    pub(crate) fn longer(self, byte: u8) -> Words {
         let mut w = self;
         w.now = grown(self.now, byte);
         w
@@ -41,9 +41,8 @@ impl Words {
 
     // The word that was being read is at its end.
     pub(crate) fn parted(self) -> Words {
-        let n = self.count;
         let mut w = self;
-        match n {
+        match self.count {
             0 => w.word = self.now,
             1 => w.a = self.now,
             2 => w.b = self.now,
@@ -52,26 +51,23 @@ impl Words {
             _ => {}
         }
         w.now = 0;
-        w.count = if n < 5 { n + 1 } else { n };
+        w.count = self.count.saturating_add(1);
         w
     }
 }
 
-// A digit behind a decimal, as long as that fits.
-fn decimal(now: u64, digit: u64) -> u64 {
-    if now < 1844674407370955161 {
-        return now * 10 + digit % 10;
+// A digit behind a decimal; 0 once that does not fit.
+fn decimal(now: u64, digit: u8) -> u64 {
+    match now.checked_mul(10) {
+        Some(tens) => tens.checked_add(u64::from(digit)).unwrap_or(0),
+        None => 0,
     }
-    if now == 1844674407370955161 && digit < 6 {
-        return 18446744073709551610 + digit % 6;
-    }
-    0
 }
 
 // A byte behind a word, which keeps its last eight.
-fn grown(now: u64, byte: u64) -> u64 {
-    if 48 <= byte && byte <= 57 {
-        return decimal(now, byte % 16);
+fn grown(now: u64, byte: u8) -> u64 {
+    if byte.is_ascii_digit() {
+        return decimal(now, byte - b'0');
     }
-    now % 72057594037927936 * 256 + byte % 256
+    (now << 8) | u64::from(byte)
 }

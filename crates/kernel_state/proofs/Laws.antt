@@ -1,9 +1,8 @@
 -- What the code needs of bits, beside the laws of rules_exceptions. Assumes nothing.
-use Prim.Native.Nat.{ℕ, ◌+◌, ◌*◌, ◌-◌, ◌%◌, ◌≤◌, ◌<◌, ◌^◌}
+use Prim.Native.Nat.{ℕ, ◌+◌, ◌-◌, ◌≤◌, ◌<◌, ◌^◌}
 use native.Mathlib.Omega.{arith}
 use native.Mathlib.Numerals.{add-one}
-use native.Mathlib.Nat.{mod-eq_of_lt, pow-le-pow_right}
-use mathlib.Core.Path.{◌≡◌, refl, sym, ap, ◌∙◌}
+use mathlib.Core.Path.{◌≡◌, refl, sym, ◌∙◌}
 use mathlib.Core.Bool.{Bool, true, false, not, ◌&&◌, ◌||◌, true≢false}
 use mathlib.Core.List.{List}
 use lib.Dec.{eqb}
@@ -13,12 +12,6 @@ use Rattle.rules.specs.Line.{at, all_below}
 use Rattle.rules_exceptions.specs.Exceptions.{has, cleared, pending_sound}
 use Rattle.rules_exceptions.proofs.Bits.{has_none, has_below, has_some, raised_below}
 use Rattle.rules_exceptions.proofs.Kept.{tests_pending}
-
-pub fits : (t : ℕ) → t < 32 → 2 ^ t < 2 ^ 32
-fits t h = let w : 2 ^ t ≤ 2 ^ 31 = pow-le-pow_right {n = 2} (omega arith) {i = t} {j = 31} (omega arith) in omega arith
-
-pub one_bit : (t : ℕ) → t < 32 → 1 * 2 ^ t % 2 ^ 32 ≡ 2 ^ t
-one_bit t h = let w = fits t h in ap (λ (x : ℕ). x % 2 ^ 32) (omega arith) ∙ mod-eq_of_lt w
 
 pub none_above : (p t : ℕ) → p < 2 ^ 32 → 31 < t → false ≡ has p t
 none_above p t h k = go (has p t) refl

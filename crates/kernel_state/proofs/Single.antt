@@ -8,10 +8,8 @@ use prog.Routine.{Routine}
 use types.Logic.{Logic}
 use contract.Monad.{Fun}
 use Rattle.one_answer.proofs.Law.{OneAnswer, OneEnd, one, both, each_of_two}
-use Rattle.kernel.specs.Lent.{tables}
 use Rattle.kernel_state.specs.declared.State.{State}
 use Rattle.kernel_state.specs.declared.Answer.{Answer}
-use Rattle.kernel_state.specs.Public.{both as whole}
 use Rattle.kernel_state.specs.contracts.whose
 use Rattle.kernel_state.specs.contracts.settle
 use Rattle.kernel_state.specs.contracts.bits.pending_sound
@@ -32,14 +30,7 @@ module _ {M : Type 1} {𝓤 : Ura M} (𝓛 : Logic 𝓤) (mem : Memory → SProp
   pending_sound_single κs a g r s d e = one 𝓤 _ _ _
 
   pub in_place_step_single : OneEnd 𝓤 in-place-step.ended (in-place-step.clauses 𝓛 mem run) (State × Answer)
-      (λ κs r e. (
-        whole
-            (tables e.0.now e.1.0.now e.1.1.0.now e.1.1.1.0.now e.1.1.1.1.0.now e.1.1.1.1.1.0.now
-            e.1.1.1.1.1.1.0.now e.1.1.1.1.1.1.1.0.now e.1.1.1.1.1.1.1.1.0.now
-            e.1.1.1.1.1.1.1.1.1.0.now)
-            e.1.1.1.1.1.1.1.1.1.1.0.now,
-        r,
-      ))
+      (λ κs r e. (e.0.now, r))
   in_place_step_single κs a g r s d e = both 𝓤 _ _ _ each_of_two
 
   pub fresh_single : OneAnswer 𝓤 fresh.ended (fresh.clauses 𝓛 mem run)

@@ -55,11 +55,9 @@ pub fn pending_sound(base: &[u8; 32], started: bool, pending: u32) -> bool
         return true;
     }
     let mut fit = true;
-    let mut t = 0u8;
-    while t < 32 {
-        let set_up = started & !(t == 0) & !(of_task(base, TaskID(t)) == 0);
+    for t in 0..32 {
+        let set_up = started & (t != 0) & (of_task(base, TaskID(t)) != 0);
         fit = (!has(pending, t) | set_up) & fit;
-        t += 1;
     }
     fit
 }

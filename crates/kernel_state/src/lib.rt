@@ -7,7 +7,7 @@ ghost use Rattle.rules.specs.Kinds.{kind};
 ghost use Rattle.rules_exceptions.specs.Exceptions.{whose_of, task_of, fresh};
 ghost use Rattle.kernel.specs.Public.{to_rules};
 ghost use Rattle.kernel_state.specs.Settle.{settled};
-ghost use Rattle.kernel_state.specs.Public.{both, encode, is_sound, step_of, left_of};
+ghost use Rattle.kernel_state.specs.Public.{encode, is_sound, step_of, left_of};
 
 use kernel::{Command, Kernel, Left, TaskID};
 use kernel_checks::{Kind, Whose};
@@ -18,7 +18,7 @@ pub mod in_place;
 pub use bits::pending_sound;
 
 // Bit t of `pending` is 1 where an exception was set for task t and no answer has shown it yet.
-#[derive(Clone, Copy)]
+#[derive(Clone, Copy, PartialEq, Eq)]
 pub struct State {
     pub kernel: Kernel,
     pub pending: u32,
@@ -42,18 +42,10 @@ pub struct Stepped {
 }
 
 // What is pending behind an answer, and whether the answer shows an exception.
-#[derive(Clone, Copy)]
+#[derive(Clone, Copy, PartialEq, Eq)]
 pub struct Settled {
     pub pending: u32,
     pub exception: bool,
-}
-
-// A step, by its parts.
-fn made(kernel: Kernel, pending: u32, answer: Answer) -> Stepped
-    ensures { result ≡ record { next = both kernel pending; answer = answer } }
-{
-    let next = State { kernel, pending };
-    Stepped { next, answer }
 }
 
 // Whose exception a command sets.
@@ -112,10 +104,8 @@ impl State {
     pub fn sound(self) -> bool
         ensures { result ≡ is_sound self }
     {
-        let kernel = self.kernel;
-        let base = kernel.base;
-        let tables = kernel.sound();
-        tables & pending_sound(&base, kernel.started, self.pending)
+        let tables = kernel::in_place::sound(&self.kernel);
+        tables & pending_sound(&self.kernel.base, self.kernel.started, self.pending)
     }
 
     // A state that is not sound is answered 1, 0, 0 and comes back as it is; a refused command its number and the same
@@ -123,55 +113,18 @@ impl State {
     pub fn step(self, c: Command) -> Stepped
         ensures { result ≡ step_of self (to_rules c) }
     {
-        let mut base = self.kernel.base;
-        let mut ready = self.kernel.ready;
-        let mut delayed = self.kernel.delayed;
-        let mut held = self.kernel.held;
-        let mut way = self.kernel.way;
-        let mut until = self.kernel.until;
-        let mut ceiling = self.kernel.ceiling;
-        let mut waiter = self.kernel.waiter;
-        let mut clock = self.kernel.clock;
-        let mut started = self.kernel.started;
-        let mut pending = self.pending;
-        let answer = in_place::step(
-            &mut base,
-            &mut ready,
-            &mut delayed,
-            &mut held,
-            &mut way,
-            &mut until,
-            &mut ceiling,
-            &mut waiter,
-            &mut clock,
-            &mut started,
-            &mut pending,
-            c,
-        );
-        let kernel = Kernel {
-            base,
-            ready,
-            delayed,
-            held,
-            way,
-            until,
-            ceiling,
-            waiter,
-            clock,
-            started,
-        };
-        made(kernel, pending, answer)
+        let mut next = self;
+        let answer = in_place::step(&mut next, c);
+        Stepped { next, answer }
     }
 
     // "Wakes left" of a task, as Kernel::wakes_left has it.
     pub fn wakes_left(self, t: TaskID) -> Left
         ensures { result ≡ left_of self t.0 }
     {
-        let kernel = self.kernel;
-        let base = kernel.base;
-        if !pending_sound(&base, kernel.started, self.pending) {
+        if !pending_sound(&self.kernel.base, self.kernel.started, self.pending) {
             return Left { code: 1, left: 0 };
         }
-        kernel.wakes_left(t)
+        self.kernel.wakes_left(t)
     }
 }

@@ -14,19 +14,22 @@ use Rattle.programs_flow.specs.declared.Went.{Went}
 use Rattle.programs_flow.specs.Flow.{Came, Took, unread}
 use Rattle.programs_flow.specs.Loops.{Unfed}
 use Rattle.programs_flow.proofs.Rooms.{put_front}
+use Rattle.std.specs.Prelude.{Result, Ok, Err}
+use Rattle.rules.specs.declared.Refusal.{Refusal}
+use Rattle.rules.specs.declared.Refusal.TheVariants.{Room}
 use Rattle.salvage_marks.specs.declared.Torn.{Torn}
 use Rattle.salvage_marks.specs.declared.Fed.{Fed}
 use Rattle.salvage_marks.specs.Torn.{pick, cells}
 use Rattle.salvage_marks.specs.Pieces.{last_place, decided, written, listed, after, held, fed_fits, fed_of, FedTo, movable, MovedTo}
 use Rattle.salvage_marks.proofs.Ahead.{ahead_few, rest_short}
-use Rattle.salvage_marks.proofs.Chained.{Fits, fits_so}
+use Rattle.salvage_marks.proofs.Chained.{Fits, fits_so, so_fed}
 use Rattle.salvage_text.specs.Lines.{list_text}
 use Rattle.programs_salvage.specs.declared.Stand.{Stand}
 use Rattle.programs_salvage.specs.Work.{Between}
 use Rattle.programs_salvage.specs.Turns.{standing, Sane, Handed, Carried, Turned}
 use Rattle.programs_salvage.proofs.Tapes.{moved_on}
 
--- ---- what an answer with code 0 says
+-- ---- what an answer says that is not refused
 
 pub record Well (t : Torn) (buf : List ℕ) (n m : ℕ) (r : Fed) : Type 0 where
   pub fits : Fits t buf n m
@@ -35,28 +38,14 @@ pub record Well (t : Torn) (buf : List ℕ) (n m : ℕ) (r : Fed) : Type 0 where
   pub kept : r.kept ≡ length (written t buf)
   pub numbers : r.cells ≡ length (cells (listed t buf))
 
-pub well : (t : Torn) (buf : List ℕ) (n m : ℕ) (r : Fed) → r ≡ fed_of t buf n m → r.code ≡ 0 → Well t buf n m r
+pub well : (t : Torn) (buf : List ℕ) (n m : ℕ) (r : Fed) → Ok r ≡ fed_of t buf n m → Well t buf n m r
 unfolding fed_of
-well t buf n m r e z = go (fed_fits t buf n m) refl e
+well t buf n m r e = go (fed_fits t buf n m) refl e
   where
-    go : (b : Bool) → fed_fits t buf n m ≡ b
-        → r ≡ cond {A = Fed} b (record {
-          code = 0;
-          torn = after t buf;
-          done = length (decided t buf);
-          kept = length (written t buf);
-          cells = length (cells (listed t buf));
-        }) (record { code = 16; torn = t; done = 0; kept = 0; cells = 0 })
-        → Well t buf n m r
+    go : (b : Bool) → fed_fits t buf n m ≡ b → Ok r ≡ cond {A = Result Fed Refusal} b (Ok (so_fed t buf)) (Err Room) → Well t buf n m r
     go true f x =
-        record {
-          fits = fits_so t buf n m f;
-          torn = ap (λ (q : Fed). q.torn) x;
-          done = ap (λ (q : Fed). q.done) x;
-          kept = ap (λ (q : Fed). q.kept) x;
-          numbers = ap (λ (q : Fed). q.cells) x;
-        }
-    go false f x = let k = ap (λ (q : Fed). q.code) x in absurd (omega (arith, k, z))
+        let q : r ≡ so_fed t buf = cc in record { fits = fits_so t buf n m f; torn = rw q; done = rw q; kept = rw q; numbers = rw q }
+    go false f x = cc
 
 -- and of the two buffers
 pub record Stands (t : Torn) (buf out list out' list' : List ℕ) (r : Fed) : Type 0 where
@@ -67,22 +56,15 @@ pub record Stands (t : Torn) (buf out list out' list' : List ℕ) (r : Fed) : Ty
   pub wrote : take r.kept out' ≡ written t buf
   pub wrote_list : take r.cells list' ≡ cells (listed t buf)
 
-pub stands : (t : Torn) (buf out list out' list' : List ℕ) (r : Fed) → FedTo t buf out list r out' list' → r.code ≡ 0 → Stands t buf out list out' list' r
+pub stands : (t : Torn) (buf out list out' list' : List ℕ) (r : Fed) → FedTo t buf out list (Ok r) out' list' → Stands t buf out list out' list' r
 unfolding fed_of
-stands t buf out list out' list' r (e, o, l) z = go (fed_fits t buf (length out) (length list)) refl e o l
+stands t buf out list out' list' r (e, o, l) = go (fed_fits t buf (length out) (length list)) refl e o l
   where
     w : Well t buf (length out) (length list) r
-    w = well t buf (length out) (length list) r e z
+    w = well t buf (length out) (length list) r e
 
     go : (b : Bool) → fed_fits t buf (length out) (length list) ≡ b
-        → r ≡ cond {A = Fed} b (record {
-          code = 0;
-          torn = after t buf;
-          done = length (decided t buf);
-          kept = length (written t buf);
-          cells = length (cells (listed t buf));
-        }) (record { code = 16; torn = t; done = 0; kept = 0; cells = 0 })
-        → out' ≡ cond {A = List ℕ} b (sets out 0 (written t buf)) out → list' ≡ cond {A = List ℕ} b (sets list 0 (cells (listed t buf))) list
+        → Ok r ≡ cond {A = Result Fed Refusal} b (Ok (so_fed t buf)) (Err Room) → out' ≡ cond {A = List ℕ} b (sets out 0 (written t buf)) out → list' ≡ cond {A = List ℕ} b (sets list 0 (cells (listed t buf))) list
         → Stands t buf out list out' list' r
     go true f x y v =
         let a = ap length y ∙ length-sets out 0 (written t buf) in
@@ -97,14 +79,14 @@ stands t buf out list out' list' r (e, o, l) z = go (fed_fits t buf (length out)
           wrote = (put_front out out' (written t buf) r.kept y w.kept k).1;
           wrote_list = (put_front list list' (cells (listed t buf)) r.cells v w.numbers m).1;
         }
-    go false f x y v = let k = ap (λ (q : Fed). q.code) x in absurd (omega (arith, k, z))
+    go false f x y v = cc
 
 -- so what was handed over is what is kept and what is listed
-pub carried : (t : Torn) (buf out list out' list' : List ℕ) (r : Fed) (was went : Went) (text : List ℕ) → FedTo t buf out list r out' list'
+pub carried : (t : Torn) (buf out list out' list' : List ℕ) (r : Fed) (was went : Went) (text : List ℕ) → FedTo t buf out list (Ok r) out' list'
     → Stands t buf out list out' list' r → Handed (take r.kept out') (list_text (take r.cells list')) was went text
-    → Carried t buf (length out) (length list) was r went out' text
+    → Carried t buf (length out) (length list) was (Ok (r, went)) out' text
 carried t buf out list out' list' r was went text f s h =
-    (f.0, λ _. (ap (λ (n : ℕ). take n out') (sym s.answer.kept) ∙ s.wrote, rw (s.wrote, s.wrote_list) at h))
+    (f.0, ap (λ (n : ℕ). take n out') (sym s.answer.kept) ∙ s.wrote, rw (s.wrote, s.wrote_list) at h)
 
 -- ---- counts
 
@@ -180,7 +162,7 @@ same_between t u h k m n e f g = rw (e, f, g)
 -- it has read a piece, behind the held bytes
 module _ (s : Stand) (buf buf' buf'' out text : List ℕ) (was came went : Went) (n all left a b : ℕ) (fed : Fed) (sane : Sane s)
     (c : Came was came (drop s.held buf')) (k : take s.held buf' ≡ take s.held buf) (on : came.kind ≡ 0) (e : n ≡ came.count)
-    (f : all ≡ s.held + n) (h : Carried s.torn (take all buf') a b came fed went out text) (z : fed.code ≡ 0) where
+    (f : all ≡ s.held + n) (h : Carried s.torn (take all buf') a b came (Ok (fed, went)) out text) where
   piece : List ℕ
   piece = take n (drop s.held buf')
 
@@ -201,7 +183,7 @@ module _ (s : Stand) (buf buf' buf'' out text : List ℕ) (was came went : Went)
       (λ (x : (came.count ≡ 0) × (1 ≤ came.kind)). absurd (omega (arith, x.1, on))) c.0.2
 
   answer : Well s.torn (start.held ++ piece) a b fed
-  answer = rw bytes at (well s.torn (take all buf') a b fed h.0 z)
+  answer = rw bytes at (well s.torn (take all buf') a b fed h.0)
 
   pub kept_fits : s.kept + fed.kept ≤ last_place
   kept_fits =
@@ -210,20 +192,21 @@ module _ (s : Stand) (buf buf' buf'' out text : List ℕ) (was came went : Went)
 
   module _ (m : MovedTo buf' fed.done all left buf'') (fit : all ≤ length buf') where
     moved : (take left buf'' ≡ held s.torn (start.held ++ piece)) × (left ≡ length (held s.torn (start.held ++ piece)))
-    moved = rw bytes at (moved_down s.torn buf' buf'' all fed.done left fit (well s.torn (take all buf') a b fed h.0 z).done m)
+    moved = rw bytes at (moved_down s.torn buf' buf'' all fed.done left fit (well s.torn (take all buf') a b fed h.0).done m)
 
     one_turn : Turned start (standing (record { torn = fed.torn; held = left; kept = s.kept + fed.kept }) buf'') was went out text
     one_turn =
-        let o = rw bytes at (h.1 z) in
+        let k = rw bytes at h.1 in
+        let o = rw bytes at h.2 in
         inl (
           piece,
           (
             omega (arith, some, size),
-            size ∙ e ∙ sym o.1.1,
+            size ∙ e ∙ sym o.1,
             same_between _ _ _ _ _ _ answer.torn moved.0 (ap (λ (x : ℕ). s.kept + x) answer.kept),
+            k,
             o.0,
-            o.1.0,
-            since _ o.1.2,
+            since _ o.2,
           ),
         )
       where

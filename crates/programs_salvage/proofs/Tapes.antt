@@ -11,13 +11,14 @@ use lib.ListN.{length, length-append, length-drop, drop_of_length-le}
 use lib.Seq.{sets, sets-eq, take-length}
 use Rattle.programs_flow.specs.Loops.{behind, texts}
 use Rattle.salvage_marks.specs.declared.Torn.{Torn}
-use Rattle.salvage_marks.specs.declared.Fed.{Fed}
 use Rattle.salvage_marks.specs.declared.Stretch.{Stretch}
+use Rattle.std.specs.Prelude.{Ok}
 use Rattle.salvage_marks.specs.Torn.{kept, dropped, found, headed, cells, total}
 use Rattle.salvage_marks.specs.Pieces.{last_place, decided, written, listed, after, held, fed_fits, fed_of, FedTo, last_of, Chain}
 use Rattle.rules.specs.Line.{joined}
 use Rattle.salvage_marks.specs.Pieces.Chain.{end, feed}
 use Rattle.salvage_marks.proofs.Ahead.{ahead_few}
+use Rattle.salvage_marks.proofs.Chained.{so_fed}
 use Rattle.salvage_marks.proofs.Whole.{kept_long, each_byte}
 use Rattle.salvage_marks.proofs.Theorems.{in_pieces}
 use Rattle.salvage_text.specs.Lines.{stretch_text, list_text, last_text}
@@ -41,16 +42,6 @@ self l =
 
 -- The answer to a piece over buffers that are as long as what is written and listed, and hold just that.
 module _ (t : Torn) (buf : List ℕ) (o : t.place + length buf ≤ last_place) where
-  abbrev answer : Fed
-  answer =
-      record {
-        code = 0;
-        torn = after t buf;
-        done = length (decided t buf);
-        kept = length (written t buf);
-        cells = length (cells (listed t buf));
-      }
-
   fits : fed_fits t buf (length (written t buf)) (length (cells (listed t buf))) ≡ true
   unfolding fed_fits
   fits =
@@ -60,7 +51,7 @@ module _ (t : Torn) (buf : List ℕ) (o : t.place + length buf ≤ last_place) w
         le-leb (length (cells (listed t buf))) (length (cells (listed t buf))) (omega arith),
       )
 
-  answered : FedTo t buf (written t buf) (cells (listed t buf)) answer (written t buf) (cells (listed t buf))
+  answered : FedTo t buf (written t buf) (cells (listed t buf)) (Ok (so_fed t buf)) (written t buf) (cells (listed t buf))
   unfolding fed_of
   answered = rw fits (refl, sym (self (written t buf)), sym (self (cells (listed t buf))))
 
@@ -71,7 +62,7 @@ linked t h p ps w c b o x =
     let buf = h ++ p in
     let w' = written t buf in
     let c' = cells (listed t buf) in
-    let y = feed {t = t} {h = h} {p = p} (answer t buf o) w' c' w' c' (answered t buf o) refl x in
+    let y = feed {t = t} {h = h} {p = p} (so_fed t buf) w' c' w' c' (answered t buf o) x in
     rw (take-length (written t buf), take-length (cells (listed t buf))) at y
 
 -- ---- all pieces

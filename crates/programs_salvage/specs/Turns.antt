@@ -1,8 +1,9 @@
 -- The loop over the pieces of the old tape: what a turn leaves in the state and in the buffers that are lent to it.
-use Rattle.std.specs.Prelude.{ℕ, ◌+◌, ◌≤◌, ◌≡◌, List, ◌⊎◌, length, take}
+use Rattle.std.specs.Prelude.{ℕ, ◌+◌, ◌≤◌, ◌≡◌, List, ◌⊎◌, length, take, Result, Ok, Err}
 use Rattle.programs_flow.specs.declared.Went.{Went}
 use Rattle.programs_flow.specs.Flow.{Took}
 use Rattle.programs_flow.specs.Loops.{Unfed}
+use Rattle.rules.specs.declared.Refusal.{Refusal}
 use Rattle.salvage_marks.specs.declared.Torn.{Torn}
 use Rattle.salvage_marks.specs.declared.Fed.{Fed}
 use Rattle.salvage_marks.specs.Torn.{cells}
@@ -32,12 +33,11 @@ Handed kept lines was went out =
 
 -- The held bytes and a piece, `buf`, were fed, with buffers of n bytes and m numbers; where that was not refused, what
 -- is kept of them stands in its buffer, and that and the lines were handed over.
-abbrev pub Carried : Torn → List ℕ → ℕ → ℕ → Went → Fed → Went → List ℕ → List ℕ → Type 0
-Carried t buf n m was fed went out text =
-    (fed ≡ fed_of t buf n m)
-    × (fed.code ≡ 0
-    → (take (length (written t buf)) out ≡ written t buf)
-    × Handed (written t buf) (list_text (cells (listed t buf))) was went text)
+abbrev pub Carried : Torn → List ℕ → ℕ → ℕ → Went → Result (Fed × Went) Refusal → List ℕ → List ℕ → Type 0
+Carried t buf n m was (Err e) out text = Err e ≡ fed_of t buf n m
+Carried t buf n m was (Ok (fed, went)) out text =
+    (Ok fed ≡ fed_of t buf n m) × (take (length (written t buf)) out ≡ written t buf)
+    × Handed (written t buf) (list_text (cells (listed t buf))) was went text
 
 -- A turn that has read the piece p: t stands behind it, what is kept of it and its lines stand in their buffers, and
 -- all of both was taken, or a write failed.

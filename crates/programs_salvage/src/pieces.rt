@@ -13,6 +13,7 @@ use decimal_print::put_decimal;
 use programs_flow::{
     Went, brought, goes_on, going, has_failed, not_read, read_from, write_to, write_whole,
 };
+use rules::Refusal;
 use salvage_print::{put_last, put_list};
 use salvaging::{Fed, Torn, at_first, feed, last_stretch, move_down};
 use std::fs::File;
@@ -22,13 +23,6 @@ use std::io::{Error, ErrorKind, IsTerminal, Print, Write};
 #[derive(Clone, Copy)]
 struct Turn {
     stand: Stand,
-    went: Went,
-}
-
-// What a piece came to, and how the work stands behind what was written of it.
-#[derive(Clone, Copy)]
-struct Handed {
-    fed: Fed,
     went: Went,
 }
 
@@ -69,7 +63,8 @@ fn hand_over<W: Write, E: Print>(
     write_whole(went, output, errors, &text[..n])
 }
 
-// The held bytes and a piece are fed; what is kept of them is written, and what was dropped is listed.
+// The held bytes and a piece are fed; where they are not refused, what is kept of them is written, and what was dropped
+// is listed.
 fn carry<W: Write, E: Print>(
     t: Torn,
     was: Went,
@@ -81,15 +76,12 @@ fn carry<W: Write, E: Print>(
     out: &mut [u8],
     list: &mut [u64],
     text: &mut [u8],
-) -> Handed
+) -> Result<(Fed, Went), Refusal>
     requires { (was.kind ≡ 0) × (35 * length list.old ≤ length text.old) }
     ensures { turn.Carried t bytes.now (length out.old) (length list.old) was
-        result.fed result.went out.new text.new }
+        result out.new text.new }
 {
-    let fed = feed(t, bytes, out, list);
-    if fed.code != 0 {
-        return Handed { fed, went: was };
-    }
+    let fed = feed(t, bytes, out, list)?;
     let kept = fed.kept;
     let cells = fed.cells;
     let went = hand_over(
@@ -102,7 +94,7 @@ fn carry<W: Write, E: Print>(
         &list[..cells],
         text,
     );
-    Handed { fed, went }
+    Ok((fed, went))
 }
 
 // One read behind the held bytes.
@@ -149,7 +141,7 @@ fn one_piece<W: Write, E: Print>(
         };
     }
     let all = held + brought(came);
-    let c = carry(
+    let carried = carry(
         s.torn,
         came,
         &mut files.part,
@@ -161,12 +153,11 @@ fn one_piece<W: Write, E: Print>(
         list,
         text,
     );
-    let fed = c.fed;
-    if fed.code != 0 {
+    let Ok((fed, went)) = carried else {
         let why = Error::from(ErrorKind::FileTooLarge);
         let went = not_read(came, errors, why, old, b" is too long");
         return Turn { stand: s, went };
-    }
+    };
     let left = move_down(buf, fed.done, all);
     let torn = fed.torn;
     let kept = s.kept + fed.kept as u64;
@@ -175,7 +166,6 @@ fn one_piece<W: Write, E: Print>(
         held: left,
         kept,
     };
-    let went = c.went;
     Turn { stand, went }
 }
 
@@ -247,12 +237,13 @@ fn write_stretch<W: Write, E: Print>(
     requires { 70 ≤ length text.old }
     ensures { Took (length (list_text (numbers_of (last_of s.torn s.held)))) w.kind w result }
 {
-    let x = last_stretch(s.torn, s.held);
-    if x.size == 0 {
-        return w;
+    match last_stretch(s.torn, s.held) {
+        None => w,
+        Some(x) => {
+            let n = put_dropped(text, &[x.first, x.size]);
+            write_whole(w, output, errors, &text[..n])
+        }
     }
-    let n = put_dropped(text, &[x.first, x.size]);
-    write_whole(w, output, errors, &text[..n])
 }
 
 fn write_last<W: Write, E: Print>(

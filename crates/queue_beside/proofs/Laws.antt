@@ -1,11 +1,8 @@
 -- The queue behind a command, from what the parts of the code answer. Assumes nothing.
-use Prim.Native.Nat.{ℕ}
 use mathlib.Core.Bool.{cond}
 use mathlib.Core.Path.{◌≡◌, sym}
 use lib.Dec.{eqb}
-use borrow.Author.Tests.{eq-eqb, ne_eqb}
 use Rattle.rules.specs.Machine.{Command, runner}
-use Rattle.rules.specs.declared.Kind.{Kind}
 use Rattle.rules.specs.Kinds.{kind}
 use Rattle.kernel.specs.View as K
 use Rattle.kernel_line.specs.declared.TaskID.{TaskID}
@@ -17,14 +14,6 @@ use Rattle.kernel_state.specs.Public.{view, step_of}
 use Rattle.queue_chip.specs.declared.Queue.{Queue}
 use Rattle.queue_chip.specs.Queue.{follow}
 use Rattle.queue_beside.specs.Beside.{followed, moved_of}
-
--- by the code that was answered
-pub refused_stays : (code now value runner : ℕ) (k : Kind) (q : Queue) → (code ≡ 0 → ⊥) → q ≡ cond (eqb code 0) (follow k now value runner q) q
-refused_stays code now value runner k q z = rw (ne_eqb code 0 z)
-
-pub accepted_moves : (code now value runner : ℕ) (k j : Kind) (q r : Queue) → code ≡ 0 → j ≡ k → r ≡ follow j now value runner q
-    → r ≡ cond (eqb code 0) (follow k now value runner q) q
-accepted_moves code now value runner k j q r z e f = rw (eq-eqb code 0 z, ← e) f
 
 -- who ran, by the table and by the machine
 ran : (s : State) → runner_in s.kernel.ready ≡ runner (view s).machine

@@ -34,16 +34,12 @@ fn follow_accepted(code: u8, c: Command, now: u64, runner: TaskID, q: Queue) -> 
 pub fn step(s: State, q: Queue, c: Command) -> Moved
     ensures { result ≡ moved_of s q (to_rules c) }
 {
-    let k = s.kernel;
-    let ready = k.ready;
-    let runner = kernel_ready::runner(&ready);
+    let runner = kernel_ready::runner(&s.kernel.ready);
     let done = s.step(c);
-    let next = done.next;
-    let answer = done.answer;
-    let queue = follow_accepted(answer.code, c, k.clock, runner, q);
+    let queue = follow_accepted(done.answer.code, c, s.kernel.clock, runner, q);
     Moved {
-        next,
-        answer,
+        next: done.next,
+        answer: done.answer,
         queue,
     }
 }

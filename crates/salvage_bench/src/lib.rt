@@ -4,7 +4,7 @@
 ghost use Rattle.std.specs.Prelude.{◌≡◌};
 ghost use Rattle.salvage_bench.specs.Told.{told_of, Whole, start, Piece};
 
-use salvaging::{Fed, Torn};
+use salvaging::Torn;
 
 // A whole tape: the code.
 #[unsafe(no_mangle)]
@@ -12,24 +12,26 @@ pub extern "C" fn salvage_bench_whole(tape: &[u8], out: &mut [u8], list: &mut [u
     ensures { Whole tape.now out.old list.old result out.new
         list.new }
 {
-    let r = salvaging::salvage(tape, out, list);
-    r.code
+    match salvaging::salvage(tape, out, list) {
+        Ok(_) => 0,
+        Err(refusal) => refusal.number(),
+    }
 }
 
-fn tell(f: Fed, told: &mut [u64])
-    ensures { told.new ≡ told_of f told.old }
+fn tell(torn: Torn, kept: usize, cells: usize, told: &mut [u64])
+    ensures { told.new ≡ told_of torn kept cells told.old }
 {
     if told.len() < 4 {
         return;
     }
-    let torn = f.torn;
     told[0] = torn.place;
     told[1] = torn.from;
-    told[2] = f.kept as u64;
-    told[3] = f.cells as u64;
+    told[2] = kept as u64;
+    told[3] = cells as u64;
 }
 
-// A piece: the code; place, open stretch, bytes and numbers go to `told`.
+// A piece: the code; place, open stretch, bytes and numbers go to `told`: of one that is refused the place and the open
+// stretch as they were, and zeros.
 #[unsafe(no_mangle)]
 pub extern "C" fn salvage_bench_piece(
     place: u64,
@@ -47,7 +49,14 @@ pub extern "C" fn salvage_bench_piece(
         from,
         headed: false,
     };
-    let f = salvaging::feed(t, buf, out, list);
-    tell(f, told);
-    f.code
+    match salvaging::feed(t, buf, out, list) {
+        Ok(fed) => {
+            tell(fed.torn, fed.kept, fed.cells, told);
+            0
+        }
+        Err(refusal) => {
+            tell(t, 0, 0, told);
+            refusal.number()
+        }
+    }
 }

@@ -1,14 +1,17 @@
--- What an answer's code says of the buffers. 16: they are as they were. 0: what is kept stands at the front of the one and the list at the front of the
--- other, and all behind is as it was. And when each code is  By the test of room, case by case. Assumes nothing.
+-- What an answer says of the buffers. Refused: they are as they were. Else what is kept stands at the front of the one and the list at the front of the other,
+-- and all behind is as it was. And when each answer is. By the test of room, case by case. Assumes nothing.
 use Prim.Native.Nat.{ℕ, zero, ◌+◌, ◌*◌, ◌≤◌, ◌<◌}
 use native.Mathlib.Omega.{arith}
-use mathlib.Core.Path.{◌≡◌, refl, ap}
+use mathlib.Core.Path.{◌≡◌, refl}
 use mathlib.Core.Bool.{Bool, true, false, cond, ◌&&◌}
 use mathlib.Core.List.{List}
 use borrow.Author.Tests.{leb-true, leb-false}
 use lib.Dec.{leb, eqb}
 use lib.ListN.{length, drop}
 use lib.Seq.{sets}
+use Rattle.std.specs.Prelude.{Result, Ok, Err}
+use Rattle.rules.specs.declared.Refusal.{Refusal}
+use Rattle.rules.specs.declared.Refusal.TheVariants.{Room}
 use Rattle.salvage_marks.specs.declared.Salvaged.{Salvaged}
 use Rattle.salvage_marks.specs.declared.Torn.{Torn}
 use Rattle.salvage_marks.specs.declared.Fed.{Fed}
@@ -24,19 +27,15 @@ use Rattle.salvage_marks.proofs.Chained.{took}
 
 -- ---- a whole tape
 
--- the two answers
 abbrev all_of : List ℕ → Salvaged
-all_of s = record { code = 0; records = length (found s); stretches = length (dropped s); headed = headed s }
-
-abbrev none_of : Salvaged
-none_of = record { code = 16; records = 0; stretches = 0; headed = false }
+all_of s = record { records = length (found s); stretches = length (dropped s); headed = headed s }
 
 pub room_exactly : (s : List ℕ) (n m : ℕ) → Answered s n m (salvaged_of s n m)
 unfolding salvaged_of fits
 room_exactly s n m = go (leb (length (kept s)) n) refl (leb (length (cells (dropped s))) m) refl
   where
     go : (x : Bool) → leb (length (kept s)) n ≡ x → (y : Bool) → leb (length (cells (dropped s))) m ≡ y
-        → Answered s n m (cond {A = Salvaged} (x && y) (all_of s) none_of)
+        → Answered s n m (cond {A = Result Salvaged Refusal} (x && y) (Ok (all_of s)) (Err Room))
     go true e true d =
         let a : length (kept s) ≤ n = leb-true (length (kept s)) n e in
         let b : length (cells (dropped s)) ≤ m = leb-true (length (cells (dropped s))) m d in
@@ -53,35 +52,34 @@ fits_both s n m e =
     (leb-true (length (kept s)) n a.0, leb-true (length (cells (dropped s))) m a.1)
 
 -- the contract, by the test
-abbrev SalvagedIf : Bool → List ℕ → List ℕ → List ℕ → Salvaged → List ℕ → List ℕ → Type 0
+abbrev SalvagedIf : Bool → List ℕ → List ℕ → List ℕ → Result Salvaged Refusal → List ℕ → List ℕ → Type 0
 SalvagedIf b s out list r out' list' =
-    (r ≡ cond {A = Salvaged} b (all_of s) none_of) × (out' ≡ cond {A = List ℕ} b (sets out 0 (kept s)) out)
+    (r ≡ cond {A = Result Salvaged Refusal} b (Ok (all_of s)) (Err Room)) × (out' ≡ cond {A = List ℕ} b (sets out 0 (kept s)) out)
     × (list' ≡ cond {A = List ℕ} b (sets list 0 (cells (dropped s))) list)
 
-module _ (s out list out' list' : List ℕ) (r : Salvaged) (f : SalvagedTo s out list r out' list') where
-  pub salvage_refused : r.code ≡ 16 → (out' ≡ out) × (list' ≡ list)
+module _ (s out list out' list' : List ℕ) where
+  pub salvage_refused : (e : Refusal) → SalvagedTo s out list (Err e) out' list' → (out' ≡ out) × (list' ≡ list)
   unfolding salvaged_of
-  salvage_refused z = go (fits s (length out) (length list)) f
+  salvage_refused e f = go (fits s (length out) (length list)) f
     where
-      go : (b : Bool) → SalvagedIf b s out list r out' list' → (out' ≡ out) × (list' ≡ list)
-      go true (x, y, v) = absurd (omega (arith, ap (λ (q : Salvaged). q.code) x))
+      go : (b : Bool) → SalvagedIf b s out list (Err e) out' list' → (out' ≡ out) × (list' ≡ list)
+      go true (x, y, v) = cc
       go false (x, y, v) = (y, v)
 
-  pub salvage_written : r.code ≡ 0 → Front (16 * r.records) (kept s) out out' × Front (2 * r.stretches) (cells (dropped s)) list list'
+  pub salvage_written : (r : Salvaged) → SalvagedTo s out list (Ok r) out' list'
+      → Front (16 * r.records) (kept s) out out' × Front (2 * r.stretches) (cells (dropped s)) list list'
   unfolding salvaged_of
-  salvage_written z = go (fits s (length out) (length list)) refl f
+  salvage_written r f = go (fits s (length out) (length list)) refl f
     where
-      go : (b : Bool) → fits s (length out) (length list) ≡ b → SalvagedIf b s out list r out' list'
+      go : (b : Bool) → fits s (length out) (length list) ≡ b → SalvagedIf b s out list (Ok r) out' list'
           → Front (16 * r.records) (kept s) out out' × Front (2 * r.stretches) (cells (dropped s)) list list'
       go true e (x, y, v) =
           let o = fits_both s (length out) (length list) e in
-          rw (x, y, v, ← kept_long s, ← cells_long (dropped s)) (fronted (kept s) out o.0, fronted (cells (dropped s)) list o.1)
-      go false e (x, y, v) = absurd (omega (arith, ap (λ (q : Salvaged). q.code) x))
+          let q : r ≡ all_of s = cc in
+          rw (q, y, v, ← kept_long s, ← cells_long (dropped s)) (fronted (kept s) out o.0, fronted (cells (dropped s)) list o.1)
+      go false e (x, y, v) = cc
 
 -- ---- a piece
-
-abbrev as_was : Torn → Fed
-as_was t = record { code = 16; torn = t; done = 0; kept = 0; cells = 0 }
 
 pub piece_room : (t : Torn) (buf : List ℕ) (n m : ℕ) → PieceAnswered t buf n m (fed_of t buf n m)
 unfolding fed_of fed_fits
@@ -91,38 +89,37 @@ piece_room t buf n m =
   where
     go : (x : Bool) → leb (t.place + length buf) last_place ≡ x → (y : Bool) → leb (length (written t buf)) n ≡ y
         → (z : Bool) → leb (2 * length (listed t buf)) m ≡ z
-        → PieceAnswered t buf n m (cond {A = Fed} (x && y && z) (record {
-          code = 0;
+        → PieceAnswered t buf n m (cond {A = Result Fed Refusal} (x && y && z) (Ok (record {
           torn = after t buf;
           done = length (decided t buf);
           kept = length (written t buf);
           cells = 2 * length (listed t buf);
-        }) (as_was t))
+        })) (Err Room))
     go true e true d true g = piece-whole (leb-true _ _ e) (leb-true _ _ d) (leb-true _ _ g)
     go true e true d false g = no-piece-numbers (leb-false _ _ g)
     go true e false d z g = no-piece-bytes (leb-false _ _ d)
     go false e y d z g = too_far (leb-false _ _ e)
 
-module _ (t : Torn) (buf out list out' list' : List ℕ) (r : Fed) (f : FedTo t buf out list r out' list') where
-  pub piece_refused : r.code ≡ 16 → (out' ≡ out) × (list' ≡ list)
+module _ (t : Torn) (buf out list out' list' : List ℕ) where
+  pub piece_refused : (e : Refusal) → FedTo t buf out list (Err e) out' list' → (out' ≡ out) × (list' ≡ list)
   unfolding fed_of
-  piece_refused z = go (fed_fits t buf (length out) (length list)) f
+  piece_refused e f = go (fed_fits t buf (length out) (length list)) f
     where
-      go : (b : Bool) → (r ≡ cond {A = Fed} b (record {
-        code = 0;
+      go : (b : Bool) → (Err e ≡ cond {A = Result Fed Refusal} b (Ok (record {
         torn = after t buf;
         done = length (decided t buf);
         kept = length (written t buf);
         cells = length (cells (listed t buf));
-      }) (as_was t)) × (out' ≡ cond {A = List ℕ} b (sets out 0 (written t buf)) out) × (list' ≡ cond {A = List ℕ} b (sets list 0 (cells (listed t buf))) list)
+      })) (Err Room)) × (out' ≡ cond {A = List ℕ} b (sets out 0 (written t buf)) out) × (list' ≡ cond {A = List ℕ} b (sets list 0 (cells (listed t buf))) list)
           → (out' ≡ out) × (list' ≡ list)
-      go true (x, y, v) = absurd (omega (arith, ap (λ (q : Fed). q.code) x))
+      go true (x, y, v) = cc
       go false (x, y, v) = (y, v)
 
-  pub piece_written : r.code ≡ 0 → Front r.kept (written t buf) out out' × Front r.cells (cells (listed t buf)) list list'
-  piece_written z = let k = took t buf out list out' list' r f z in (k.bytes, k.numbers)
+  pub piece_written : (r : Fed) → FedTo t buf out list (Ok r) out' list'
+      → Front r.kept (written t buf) out out' × Front r.cells (cells (listed t buf)) list list'
+  piece_written r f = let k = took t buf out list out' list' r f in (k.bytes, k.numbers)
 
-  pub piece_held : r.code ≡ 0 → (r.done ≤ length buf) × (length (drop r.done buf) ≤ 15)
-  piece_held z =
-      let k = took t buf out list out' list' r f z in
+  pub piece_held : (r : Fed) → FedTo t buf out list (Ok r) out' list' → (r.done ≤ length buf) × (length (drop r.done buf) ≤ 15)
+  piece_held r f =
+      let k = took t buf out list out' list' r f in
       rw k.done (ahead_few (eqb t.place 0) zero buf (omega arith), rest_short (eqb t.place 0) zero buf)

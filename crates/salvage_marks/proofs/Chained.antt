@@ -4,17 +4,20 @@ use Prim.Native.Nat.{ℕ, zero, suc, ◌+◌, ◌-◌, ◌*◌, ◌≤◌, ◌<�
 use native.Mathlib.Omega.{arith}
 use mathlib.Core.Path.{◌≡◌, refl, sym, ap, ◌∙◌}
 use mathlib.Core.Bool.{Bool, true, false, cond, ◌&&◌, ◌||◌}
-use mathlib.Core.List.{List, [], ◌++◌, append_assoc, append-nil}
-use borrow.Author.Tests.{leb-true, leb-false, le-leb, lt-leb, ne_eqb, le-ltb, ltb-false}
+use mathlib.Core.List.{List, [], ◌∷◌, ◌++◌, append_assoc, append-nil}
+use borrow.Author.Tests.{leb-true, leb-false, le-leb, lt-leb, ne_eqb}
 use lib.Dec.{leb, ltb, eqb}
 use lib.ListN.{length, drop, length-append, length-drop}
 use lib.Seq.{sets, take-append-le}
+use Rattle.std.specs.Prelude.{Option, Some, None, option_to_list, Result, Ok, Err}
+use Rattle.rules.specs.declared.Refusal.{Refusal}
+use Rattle.rules.specs.declared.Refusal.TheVariants.{Room}
 use Rattle.salvage_marks.specs.declared.Stretch.{Stretch}
 use Rattle.salvage_marks.specs.declared.Torn.{Torn}
 use Rattle.salvage_marks.specs.declared.Fed.{Fed}
 use Rattle.salvage_marks.specs.Torn.{marks, pick, closed, stretches, kept_on, dropped_on, kept, dropped, headed, cells}
-use Rattle.salvage_marks.specs.Pieces.{ended, begun, at_first, last_place, least, opened, decided, written, listed, after, held}
-use Rattle.salvage_marks.specs.Pieces.{fed_fits, fed_of, FedTo, last_of, Chain}
+use Rattle.salvage_marks.specs.Pieces.{ended, begun, at_first, last_place, opened, decided, written, listed, after, held}
+use Rattle.salvage_marks.specs.Pieces.{fed_fits, fed_of, FedTo, ends_at, stretch_of, last_of, Chain}
 use Rattle.rules.specs.Line.{joined}
 use Rattle.salvage_marks.specs.Pieces.Chain.{end, feed}
 use Rattle.salvage_marks.specs.Words.{Front}
@@ -33,16 +36,6 @@ place_zero (suc a) n =
     let y : eqb (suc a) 0 ≡ false = ne_eqb (suc a) 0 (λ e. omega arith) in
     rw (z, y)
 
-pub least_same : (x y : ℕ) → x ≤ y → least x y ≡ x
-least_same x y o = rw (le-ltb y x o)
-
-pub least_below : (x y : ℕ) → least x y ≤ y
-least_below x y = go (ltb y x) refl
-  where
-    go : (b : Bool) → ltb y x ≡ b → cond {A = ℕ} b y x ≤ y
-    go true e = omega arith
-    go false e = ltb-false y x e
-
 -- ---- one piece
 
 -- a piece, buf with the held bytes, and what comes behind it
@@ -59,7 +52,7 @@ module _ (t : Torn) (buf r : List ℕ) where
 
   after_opened : opened (after t buf) ≡ begun (opened t) t.place (decided t buf)
   unfolding after
-  after_opened = least_same _ _ (begun_before (opened t) t.place (decided t buf) (least_below t.from t.place))
+  after_opened = omega (arith, begun_before (opened t) t.place (decided t buf) (omega arith))
 
   piece_listed : dropped_on (eqb t.place 0) (opened t) t.place (buf ++ r)
       ≡ listed t buf ++ dropped_on (eqb (after t buf).place 0) (opened (after t buf)) (after t buf).place (held t buf ++ r)
@@ -138,30 +131,35 @@ pub record Took (t : Torn) (buf out list : List ℕ) (r : Fed) (out' list' : Lis
   pub bytes : Front r.kept (written t buf) out out'
   pub numbers : Front r.cells (cells (listed t buf)) list list'
 
-pub took : (t : Torn) (buf out list out' list' : List ℕ) (r : Fed) → FedTo t buf out list r out' list' → r.code ≡ 0 → Took t buf out list r out' list'
+-- the answer of a piece that fits
+abbrev pub so_fed : Torn → List ℕ → Fed
+so_fed t buf =
+    record {
+      torn = after t buf;
+      done = length (decided t buf);
+      kept = length (written t buf);
+      cells = length (cells (listed t buf));
+    }
+
+pub took : (t : Torn) (buf out list out' list' : List ℕ) (r : Fed) → FedTo t buf out list (Ok r) out' list' → Took t buf out list r out' list'
 unfolding fed_of
-took t buf out list out' list' r f z = go (fed_fits t buf (length out) (length list)) refl f
+took t buf out list out' list' r f = go (fed_fits t buf (length out) (length list)) refl f
   where
     go : (b : Bool) → fed_fits t buf (length out) (length list) ≡ b
-        → (r ≡ cond {A = Fed} b (record {
-          code = 0;
-          torn = after t buf;
-          done = length (decided t buf);
-          kept = length (written t buf);
-          cells = length (cells (listed t buf));
-        }) (record { code = 16; torn = t; done = 0; kept = 0; cells = 0 }))
+        → (Ok r ≡ cond {A = Result Fed Refusal} b (Ok (so_fed t buf)) (Err Room))
         × (out' ≡ cond {A = List ℕ} b (sets out 0 (written t buf)) out) × (list' ≡ cond {A = List ℕ} b (sets list 0 (cells (listed t buf))) list)
         → Took t buf out list r out' list'
     go true e (x, y, v) =
         let k = fits_so t buf (length out) (length list) e in
+        let q : r ≡ so_fed t buf = cc in
         record {
           place = k.place;
-          torn = ap (λ (q : Fed). q.torn) x;
-          done = ap (λ (q : Fed). q.done) x;
-          bytes = rw (x, y) (fronted (written t buf) out k.bytes);
-          numbers = rw (x, v) (fronted (cells (listed t buf)) list k.numbers);
+          torn = rw q;
+          done = rw q;
+          bytes = rw (q, y) (fronted (written t buf) out k.bytes);
+          numbers = rw (q, v) (fronted (cells (listed t buf)) list k.numbers);
         }
-    go false e (x, y, v) = absurd (omega (arith, ap (λ (q : Fed). q.code) x))
+    go false e (x, y, v) = cc
 
 -- ---- what is held
 
@@ -218,24 +216,32 @@ or_none true x = refl
 or_none false true = refl
 or_none false false = refl
 
-last_whole : (t : Torn) (h : List ℕ) (x : Stretch) → x ≡ last_of t (length h) → length h ≤ 15 → t.place + length h ≤ last_place
-    → WholeOf t (h ++ []) [] (cells (closed x.first (x.first + x.size) [])) t.headed
+pub one_closed : (from at : ℕ) → option_to_list (stretch_of from at) ≡ closed from at []
+unfolding closed
+one_closed from at = go (ltb from at)
+  where
+    go : (b : Bool) → option_to_list (cond {A = Option Stretch} b (Some (record { first = from; size = at - from })) None)
+        ≡ cond {A = List Stretch} b (record { first = from; size = at - from } ∷ []) []
+    go true = refl
+    go false = refl
+
+last_whole : (t : Torn) (h : List ℕ) (x : Option Stretch) → x ≡ last_of t (length h) → length h ≤ 15 → t.place + length h ≤ last_place
+    → WholeOf t (h ++ []) [] (cells (option_to_list x)) t.headed
 unfolding last_of
 last_whole t h x e o p =
-    let n : least (t.place + length h) last_place ≡ t.place + length h = least_same (t.place + length h) last_place p in
-    let y : opened t + (t.place + length h - opened t) ≡ t.place + length h = omega (arith, least_below t.from t.place) in
+    let n : ends_at t.place (length h) ≡ t.place + length h = omega arith in
     rw (append-nil h) (
       rw (short_marks (eqb t.place 0) h o) (sym (pick_none h)),
-      rw (e, n, y, short_marks (eqb t.place 0) h o) (ap cells (sym (one_stretch (length h) (opened t) t.place))),
+      rw (e, n, one_closed, short_marks (eqb t.place 0) h o) (ap cells (sym (one_stretch (length h) (opened t) t.place))),
       rw (headed_short h (omega arith)) (or_none t.headed (eqb t.place 0)),
     )
 
 pub chain_whole : {t : Torn} {h : List ℕ} {ps : List (List ℕ)} {w c : List ℕ} {b : Bool} → Chain t h ps w c b → length h ≤ 15 → t.place + length h ≤ last_place
     → WholeOf t (h ++ joined ps) w c b
 chain_whole {t} {h} (end x e) o p = last_whole t h x e o p
-chain_whole {t} {h} (feed {p = q} {ps = ps} {w = w} {c = c} {b = b} r out list out' list' f z rest) o p =
+chain_whole {t} {h} (feed {p = q} {ps = ps} {w = w} {c = c} {b = b} r out list out' list' f rest) o p =
     let buf : List ℕ = h ++ q in
-    let k = took t buf out list out' list' r f z in
+    let k = took t buf out list out' list' r f in
     let a : Torn = after t buf in
     let l : List ℕ = held t buf in
     let ed : drop r.done buf ≡ l = held_is t buf r.done k.done in

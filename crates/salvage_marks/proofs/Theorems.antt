@@ -15,6 +15,8 @@ use Rattle.std.specs.Prelude.{Ok}
 use Rattle.record.specs.Fault.{fault_of}
 use Rattle.record.specs.declared.Record.{Record}
 use Rattle.tape_form.specs.Run.{tape_of, Takes, answers, found_all}
+use Rattle.std.specs.Prelude.{Ok, Err}
+use Rattle.rules.specs.declared.Refusal.{Refusal}
 use Rattle.salvage_marks.specs.declared.Salvaged.{Salvaged}
 use Rattle.salvage_marks.specs.declared.Torn.{Torn}
 use Rattle.salvage_marks.specs.declared.Fed.{Fed}
@@ -142,22 +144,22 @@ cut_short x o = damage.short_clear x o
 
 -- ---- Room
 
--- Code 0 exactly if the records and the list fit the buffers, and 16 exactly if not.
+-- Refused, for want of room, exactly if the records or the list do not fit the buffers.
 -- Rules out: a salvage refused that would fit, and one that is not refused and does not.
 pub room_exactly : (s : List ℕ) (n m : ℕ) → Answered s n m (salvaged_of s n m)
 room_exactly s n m = told.room_exactly s n m
 
--- Code 16: both buffers are as they were.
+-- Refused: both buffers are as they were.
 -- Rules out: a salvage that is refused after it wrote something.
-pub refused_untouched : (s out list out' list' : List ℕ) (r : Salvaged) → SalvagedTo s out list r out' list' → r.code ≡ 16 → (out' ≡ out) × (list' ≡ list)
-refused_untouched s out list out' list' r f z = told.salvage_refused s out list out' list' r f z
+pub refused_untouched : (s out list out' list' : List ℕ) (e : Refusal) → SalvagedTo s out list (Err e) out' list' → (out' ≡ out) × (list' ≡ list)
+refused_untouched s out list out' list' e f = told.salvage_refused s out list out' list' e f
 
--- Code 0: the new tape stands at the front of the one buffer, 16 bytes for each record that is counted, and the list at the front of the other, two numbers
+-- Not refused: the new tape stands at the front of the one buffer, 16 bytes for each record that is counted, and the list at the front of the other, two numbers
 -- for each stretch; what stands behind them is as it was.
 -- Rules out: counts that are not those of what was written.
-pub accepted_written : (s out list out' list' : List ℕ) (r : Salvaged) → SalvagedTo s out list r out' list' → r.code ≡ 0
+pub accepted_written : (s out list out' list' : List ℕ) (r : Salvaged) → SalvagedTo s out list (Ok r) out' list'
     → Front (16 * r.records) (kept s) out out' × Front (2 * r.stretches) (cells (dropped s)) list list'
-accepted_written s out list out' list' r f z = told.salvage_written s out list out' list' r f z
+accepted_written s out list out' list' r f = told.salvage_written s out list out' list' r f
 
 -- ---- In pieces
 
@@ -168,28 +170,28 @@ pub in_pieces : (ps : List (List ℕ)) {w c : List ℕ} {b : Bool} → Chain at_
 unfolding kept dropped
 in_pieces ps x = chained.chain_whole x (omega arith) (omega arith)
 
--- Code 0 exactly if the piece's end can be said in 64 bits and what is to be written and listed fits the buffers, and 16 exactly if not.
+-- Refused, for want of room, exactly if the piece's end cannot be said in 64 bits or what is to be written and listed does not fit the buffers.
 -- Rules out: a piece that is refused for want of room that it does not need.
 pub piece_room_exactly : (t : Torn) (buf : List ℕ) (n m : ℕ) → PieceAnswered t buf n m (fed_of t buf n m)
 piece_room_exactly t buf n m = told.piece_room t buf n m
 
--- Code 16: both buffers are as they were.
+-- Refused: both buffers are as they were.
 -- Rules out: a piece that is refused after something of it was written.
-pub piece_refused_untouched : (t : Torn) (buf out list out' list' : List ℕ) (r : Fed) → FedTo t buf out list r out' list' → r.code ≡ 16
+pub piece_refused_untouched : (t : Torn) (buf out list out' list' : List ℕ) (e : Refusal) → FedTo t buf out list (Err e) out' list'
     → (out' ≡ out) × (list' ≡ list)
-piece_refused_untouched t buf out list out' list' r f z = told.piece_refused t buf out list out' list' r f z
+piece_refused_untouched t buf out list out' list' e f = told.piece_refused t buf out list out' list' e f
 
--- Code 0: what is kept of the piece stands at the front of the one buffer and what is listed at the front of the other, as many bytes and numbers as are
+-- Not refused: what is kept of the piece stands at the front of the one buffer and what is listed at the front of the other, as many bytes and numbers as are
 -- counted; what stands behind them is as it was.
-pub piece_accepted_written : (t : Torn) (buf out list out' list' : List ℕ) (r : Fed) → FedTo t buf out list r out' list' → r.code ≡ 0
+pub piece_accepted_written : (t : Torn) (buf out list out' list' : List ℕ) (r : Fed) → FedTo t buf out list (Ok r) out' list'
     → Front r.kept (written t buf) out out' × Front r.cells (cells (listed t buf)) list list'
-piece_accepted_written t buf out list out' list' r f z = told.piece_written t buf out list out' list' r f z
+piece_accepted_written t buf out list out' list' r f = told.piece_written t buf out list out' list' r f
 
--- Code 0: fewer than 16 bytes are left for the next piece. So a buffer of fixed size serves a tape of any length.
+-- Not refused: fewer than 16 bytes are left for the next piece. So a buffer of fixed size serves a tape of any length.
 -- Rules out: a salvage that waits for more bytes than a record has.
-pub piece_held_few : (t : Torn) (buf out list out' list' : List ℕ) (r : Fed) → FedTo t buf out list r out' list' → r.code ≡ 0
+pub piece_held_few : (t : Torn) (buf out list out' list' : List ℕ) (r : Fed) → FedTo t buf out list (Ok r) out' list'
     → (r.done ≤ length buf) × (length (drop r.done buf) ≤ 15)
-piece_held_few t buf out list out' list' r f z = told.piece_held t buf out list out' list' r f z
+piece_held_few t buf out list out' list' r f = told.piece_held t buf out list out' list' r f
 
 -- No piece is refused whose end can be said in 64 bits, over a buffer of as many bytes and one of a number for each whole 8 of them.
 pub piece_fits : (t : Torn) (buf : List ℕ) (n m : ℕ) → t.place + length buf ≤ last_place → length buf ≤ n → length buf < 8 * m + 8 → fed_fits t buf n m ≡ true

@@ -5,9 +5,9 @@ use mathlib.Core.Path.{◌≡◌, refl}
 use mathlib.Core.Bool.{Bool, true, false}
 use mathlib.Core.List.{List, [], ◌∷◌, ◌++◌}
 use Rattle.record.specs.Form.{record_of}
-use Rattle.salvage_marks.specs.declared.Salvaged.{Salvaged}
+use Rattle.std.specs.Prelude.{Some, None, Ok, Err}
+use Rattle.rules.specs.declared.Refusal.TheVariants.{Room}
 use Rattle.salvage_marks.specs.declared.Torn.{Torn}
-use Rattle.salvage_marks.specs.declared.Fed.{Fed}
 use Rattle.salvage_marks.specs.Torn.{makes, marks, pick, closed, stretches, kept, dropped, found_on, found, headed, cells, fits, salvaged_of}
 use Rattle.salvage_marks.specs.Pieces.{ahead, ended, begun, at_first, written, listed, after, fed_fits, fed_of, last_of}
 
@@ -124,11 +124,8 @@ one_short = (refl, refl, refl)
 abbrev three_kept : List ℕ
 three_kept = header ++ junk ++ create ++ closep
 
-abbrev refused : Salvaged
-refused = record { code = 16; records = 0; stretches = 0; headed = false }
-
-room : (salvaged_of three_kept 48 2 ≡ record { code = 0; records = 3; stretches = 1; headed = true }) × (salvaged_of three_kept 47 2 ≡ refused)
-    × (salvaged_of three_kept 48 1 ≡ refused)
+room : (salvaged_of three_kept 48 2 ≡ Ok (record { records = 3; stretches = 1; headed = true })) × (salvaged_of three_kept 47 2 ≡ Err Room)
+    × (salvaged_of three_kept 48 1 ≡ Err Room)
 unfolding salvaged_of fits kept dropped found found_on headed marks makes pick stretches closed cells record_of
 room = (refl, refl, refl)
 
@@ -139,10 +136,7 @@ room = (refl, refl, refl)
 abbrev first_42 : List ℕ
 first_42 = header ++ junk ++ create ++ seven
 
-abbrev not_fed : Torn → Fed
-not_fed t = record { code = 16; torn = t; done = 0; kept = 0; cells = 0 }
-
-first_piece : fed_of at_first first_42 32 2 ≡ record { code = 0; torn = record { place = 35; from = 35; headed = true }; done = 35; kept = 32; cells = 2 }
+first_piece : fed_of at_first first_42 32 2 ≡ Ok (record { torn = record { place = 35; from = 35; headed = true }; done = 35; kept = 32; cells = 2 })
 unfolding fed_of fed_fits written listed after ahead ended begun headed makes pick closed cells record_of
 first_piece = refl
 
@@ -150,7 +144,7 @@ first_kept : (written at_first first_42 ≡ header ++ create) × (cells (listed 
 unfolding written listed ahead ended makes pick closed cells record_of
 first_kept = (refl, refl)
 
-no_piece_room : (fed_of at_first first_42 31 2 ≡ not_fed at_first) × (fed_of at_first first_42 32 1 ≡ not_fed at_first)
+no_piece_room : (fed_of at_first first_42 31 2 ≡ Err Room) × (fed_of at_first first_42 32 1 ≡ Err Room)
 unfolding fed_of fed_fits written listed ahead ended makes pick closed cells record_of
 no_piece_room = (refl, refl)
 
@@ -159,7 +153,7 @@ abbrev on_way : Torn
 on_way = record { place = 50; from = 45; headed = true }
 
 piece : fed_of on_way (header ++ create ++ junk) 16 2
-    ≡ record { code = 0; torn = record { place = 82; from = 82; headed = true }; done = 32; kept = 16; cells = 2 }
+    ≡ Ok (record { torn = record { place = 82; from = 82; headed = true }; done = 32; kept = 16; cells = 2 })
 unfolding fed_of fed_fits written listed after ahead ended begun headed makes pick closed cells record_of
 piece = refl
 
@@ -174,25 +168,24 @@ made_up = refl
 
 -- the last place is 18446744073709551615: a piece that ends there, and one that ends behind it
 at_last : fed_of (record { place = 18446744073709551612; from = 5; headed = false }) junk 0 0
-    ≡ record { code = 0; torn = record { place = 18446744073709551612; from = 5; headed = false }; done = 0; kept = 0; cells = 0 }
+    ≡ Ok (record { torn = record { place = 18446744073709551612; from = 5; headed = false }; done = 0; kept = 0; cells = 0 })
 unfolding fed_of fed_fits written listed after ahead ended begun headed makes pick closed cells record_of
 at_last = refl
 
-past_last : fed_of (record { place = 18446744073709551613; from = 5; headed = false }) junk 0 0
-    ≡ not_fed (record { place = 18446744073709551613; from = 5; headed = false })
+past_last : fed_of (record { place = 18446744073709551613; from = 5; headed = false }) junk 0 0 ≡ Err Room
 unfolding fed_of fed_fits written listed ahead ended makes pick closed cells record_of
 past_last = refl
 
 -- The last stretch: with 7 bytes undecided, with none and nothing open, and where the sum would pass the last place.
-last : last_of on_way 7 ≡ record { first = 45; size = 12 }
+last : last_of on_way 7 ≡ Some (record { first = 45; size = 12 })
 unfolding last_of
 last = refl
 
-last_none : last_of (record { place = 35; from = 35; headed = true }) 0 ≡ record { first = 35; size = 0 }
+last_none : last_of (record { place = 35; from = 35; headed = true }) 0 ≡ None
 unfolding last_of
 last_none = refl
 
 last_capped : last_of (record { place = 18446744073709551613; from = 18446744073709551611; headed = false }) 9
-    ≡ record { first = 18446744073709551611; size = 4 }
+    ≡ Some (record { first = 18446744073709551611; size = 4 })
 unfolding last_of
 last_capped = refl

@@ -1,7 +1,9 @@
 -- The salvage of a tape that comes in pieces: what is decided of the bytes seen so far, and what waits for the next
 -- piece. Assumes nothing.
-use Rattle.std.specs.Prelude.{ℕ, zero, suc, ◌+◌, ◌-◌, ◌/◌, ◌≡◌, List, [], ◌∷◌, ◌++◌, Bool, true, false, cond, ◌&&◌, ◌||◌, length, take, drop, leb, ltb, eqb}
+use Rattle.std.specs.Prelude.{ℕ, zero, suc, ◌+◌, ◌-◌, ◌/◌, ◌≡◌, List, [], ◌∷◌, ◌++◌, Bool, true, false, cond, ◌&&◌, ◌||◌, length, take, drop, min, leb, ltb, eqb, Option, Some, None, option_to_list, Result, Ok, Err}
 use Rattle.std.proofs.lemmas.List.Edits.{sets}
+use Rattle.rules.specs.declared.Refusal.{Refusal}
+use Rattle.rules.specs.declared.Refusal.TheVariants.{Room}
 use Rattle.salvage_marks.specs.Torn.{makes, pick, closed, headed, cells}
 use Rattle.salvage_marks.specs.declared.Stretch.{Stretch}
 use Rattle.salvage_marks.specs.declared.Torn.{Torn}
@@ -35,13 +37,9 @@ at_first = record { place = 0; from = 0; headed = false }
 abbrev pub last_place : ℕ
 last_place = 18446744073709551615
 
--- the smaller of two numbers
-abbrev pub least : ℕ → ℕ → ℕ
-least x y = cond (ltb y x) y x
-
 -- where the open stretch begins; where a caller made up one that begins past the place, it begins at the place
 abbrev pub opened : Torn → ℕ
-opened t = least t.from t.place
+opened t = min t.from t.place
 
 -- the marks of the held bytes and of the piece behind them, together `buf`, as far as they are decided
 abbrev pub decided : Torn → List ℕ → List Bool
@@ -79,33 +77,38 @@ fed_fits t buf n m =
 abbrev pub long_enough : ℕ → ℕ → ℕ → Bool
 long_enough many n m = leb many n && leb (many / 8) m
 
--- A piece answers 0, the salvage behind it and its counts; or, where it does not fit, 16, the salvage as it was, and
--- zeros.
-unfoldable pub fed_of : Torn → List ℕ → ℕ → ℕ → Fed
+-- A piece answers the salvage behind it and its counts; or, where it does not fit, it is refused, for want of room.
+unfoldable pub fed_of : Torn → List ℕ → ℕ → ℕ → Result Fed Refusal
 fed_of t buf n m =
     cond (fed_fits t buf n m)
-    (record {
-      code = 0;
+    (Ok (record {
       torn = after t buf;
       done = length (decided t buf);
       kept = length (written t buf);
       cells = length (cells (listed t buf));
-    })
-    (record { code = 16; torn = t; done = 0; kept = 0; cells = 0 })
+    }))
+    (Err Room)
 
 -- The contract of a piece: its answer; and where it fits, what is written stands at the front of one buffer and what
 -- is listed at the front of the other, else both are as they were.
-abbrev pub FedTo : Torn → List ℕ → List ℕ → List ℕ → Fed → List ℕ → List ℕ → Type 0
+abbrev pub FedTo : Torn → List ℕ → List ℕ → List ℕ → Result Fed Refusal → List ℕ → List ℕ → Type 0
 FedTo t buf out list r out' list' =
     (r ≡ fed_of t buf (length out) (length list))
     × (out' ≡ cond (fed_fits t buf (length out) (length list)) (sets out 0 (written t buf)) out)
     × (list' ≡ cond (fed_fits t buf (length out) (length list)) (sets list 0 (cells (listed t buf))) list)
 
+-- where a tape ends, so many bytes behind a place: a sum that passes the last place counts as it
+abbrev pub ends_at : ℕ → ℕ → ℕ
+ends_at place n = min (place + n) last_place
+
+-- the stretch from a place up to another; an empty one is none
+abbrev pub stretch_of : ℕ → ℕ → Option Stretch
+stretch_of from at = cond (ltb from at) (Some (record { first = from; size = at - from })) None
+
 -- The last stretch of a tape that ends with n bytes undecided. These are dropped, so it goes from where the open one
--- begins up to the tape's end. No tape ends behind the last place: a sum that passes it counts as it. The size is 0
--- where there is no last stretch.
-unfoldable pub last_of : Torn → ℕ → Stretch
-last_of t n = record { first = opened t; size = least (t.place + n) last_place - opened t }
+-- begins up to the tape's end.
+unfoldable pub last_of : Torn → ℕ → Option Stretch
+last_of t n = stretch_of (opened t) (ends_at t.place n)
 
 -- a buffer has bytes from `done` up to `n`, perhaps none
 unfoldable pub movable : List ℕ → ℕ → ℕ → Bool
@@ -119,11 +122,11 @@ MovedTo s done n r s' =
     × (s' ≡ cond (movable s done n) (sets s 0 (take (n - done) (drop done s))) s)
 
 -- A program that feeds a tape piece by piece, from a salvage t with some bytes held, to its end. All that it writes,
--- all that it lists, and whether a header was kept. Each answer is one that the contract allows, with code 0.
+-- all that it lists, and whether a header was kept. Each answer is one that the contract allows, and none refuses.
 pub data Chain : Torn → List ℕ → List (List ℕ) → List ℕ → List ℕ → Bool → Type 0 where
-  end : {t : Torn} {h : List ℕ} (x : Stretch) → x ≡ last_of t (length h)
-      → Chain t h [] [] (cells (closed x.first (x.first + x.size) [])) t.headed
+  end : {t : Torn} {h : List ℕ} (x : Option Stretch) → x ≡ last_of t (length h)
+      → Chain t h [] [] (cells (option_to_list x)) t.headed
   feed : {t : Torn} {h p : List ℕ} {ps : List (List ℕ)} {w c : List ℕ} {b : Bool} (r : Fed)
-      (out list out' list' : List ℕ) → FedTo t (h ++ p) out list r out' list' → r.code ≡ 0
+      (out list out' list' : List ℕ) → FedTo t (h ++ p) out list (Ok r) out' list'
       → Chain r.torn (drop r.done (h ++ p)) ps w c b
       → Chain t h (p ∷ ps) (take r.kept out' ++ w) (take r.cells list' ++ c) b

@@ -1,9 +1,11 @@
 -- The salvage of a torn tape, one with bytes missing, spoilt or put in: which of its bytes are kept, the new tape that
 -- they make, and the stretches that are dropped. Assumes nothing.
-use Rattle.std.specs.Prelude.{ℕ, zero, suc, ◌+◌, ◌-◌, ◌≡◌, List, [], ◌∷◌, Bool, true, false, cond, ◌&&◌, ◌||◌, length, take, leb, ltb}
+use Rattle.std.specs.Prelude.{ℕ, zero, suc, ◌+◌, ◌-◌, ◌≡◌, List, [], ◌∷◌, Bool, true, false, cond, ◌&&◌, ◌||◌, length, take, leb, ltb, Result, Ok, Err}
 use Rattle.std.proofs.lemmas.List.Edits.{sets}
 use Rattle.record.specs.Form.{is_header, is_command, record_of}
 use Rattle.record.specs.declared.Record.{Record}
+use Rattle.rules.specs.declared.Refusal.{Refusal}
+use Rattle.rules.specs.declared.Refusal.TheVariants.{Room}
 use Rattle.salvage_marks.specs.declared.Stretch.{Stretch}
 use Rattle.salvage_marks.specs.declared.Salvaged.{Salvaged}
 
@@ -84,16 +86,16 @@ total (x ∷ xs) = x.size + total xs
 unfoldable pub fits : List ℕ → ℕ → ℕ → Bool
 fits s n m = leb (length (kept s)) n && leb (length (cells (dropped s))) m
 
--- A salvage answers 0 and its counts; or, where the buffers have no room for all of it, 16 and zeros.
-unfoldable pub salvaged_of : List ℕ → ℕ → ℕ → Salvaged
+-- A salvage answers its counts; or it is refused, for want of room, where the buffers do not hold all of it.
+unfoldable pub salvaged_of : List ℕ → ℕ → ℕ → Result Salvaged Refusal
 salvaged_of s n m =
     cond (fits s n m)
-    (record { code = 0; records = length (found s); stretches = length (dropped s); headed = headed s })
-    (record { code = 16; records = 0; stretches = 0; headed = false })
+    (Ok (record { records = length (found s); stretches = length (dropped s); headed = headed s }))
+    (Err Room)
 
 -- The contract of a salvage into two buffers: its answer; and where all fits, the new tape stands at the front of the
 -- one and the list at the front of the other, else both are as they were.
-abbrev pub SalvagedTo : List ℕ → List ℕ → List ℕ → Salvaged → List ℕ → List ℕ → Type 0
+abbrev pub SalvagedTo : List ℕ → List ℕ → List ℕ → Result Salvaged Refusal → List ℕ → List ℕ → Type 0
 SalvagedTo s out list r out' list' =
     (r ≡ salvaged_of s (length out) (length list))
     × (out' ≡ cond (fits s (length out) (length list)) (sets out 0 (kept s)) out)

@@ -1,5 +1,7 @@
 -- The words in which a salvage's promises are said (proofs/Theorems), beside those of Torn and Pieces. Assumes nothing.
-use Rattle.std.specs.Prelude.{ℕ, zero, suc, ◌+◌, ◌-◌, ◌*◌, ◌%◌, ◌≤◌, ◌<◌, ◌≡◌, List, [], ◌∷◌, ◌++◌, Bool, true, false, cond, ◌&&◌, ◌||◌, length, take, drop, get_or, replicate, eqb, leb, ltb}
+use Rattle.std.specs.Prelude.{ℕ, zero, suc, ◌+◌, ◌-◌, ◌*◌, ◌%◌, ◌≤◌, ◌<◌, ◌≡◌, List, [], ◌∷◌, ◌++◌, Bool, true, false, cond, ◌&&◌, ◌||◌, length, take, drop, get_or, replicate, eqb, leb, ltb, Result, Ok, Err}
+use Rattle.rules.specs.declared.Refusal.{Refusal}
+use Rattle.rules.specs.declared.Refusal.TheVariants.{Room}
 use Rattle.salvage_marks.specs.Torn.{makes, marks, found, dropped, headed}
 use Rattle.salvage_marks.specs.Pieces.{last_place, decided, written, listed, after}
 use Rattle.salvage_marks.specs.declared.Stretch.{Stretch}
@@ -65,33 +67,26 @@ pub record Front (n : ℕ) (w old new : List ℕ) : Type 0 where
   pub front : take n new ≡ w
   pub rest : drop n new ≡ drop n old
 
--- What a salvage answers over buffers of n bytes and m numbers. Code 0 and its counts: the records, 16 bytes each, and
--- the list, two numbers for each stretch, fit. Code 16 and zeros: the records do not fit, or the list does not.
-pub data Answered (s : List ℕ) (n m : ℕ) : Salvaged → Type 0 where
+-- What a salvage answers over buffers of n bytes and m numbers. Its counts: the records, 16 bytes each, and the list,
+-- two numbers for each stretch, fit. Refused for want of room: the records do not fit, or the list does not.
+pub data Answered (s : List ℕ) (n m : ℕ) : Result Salvaged Refusal → Type 0 where
   whole : 16 * length (found s) ≤ n → 2 * length (dropped s) ≤ m
-      → Answered s n m
-      (record { code = 0; records = length (found s); stretches = length (dropped s); headed = headed s })
-  no_bytes : n < 16 * length (found s)
-      → Answered s n m (record { code = 16; records = 0; stretches = 0; headed = false })
-  no_numbers : m < 2 * length (dropped s)
-      → Answered s n m (record { code = 16; records = 0; stretches = 0; headed = false })
+      → Answered s n m (Ok (record { records = length (found s); stretches = length (dropped s); headed = headed s }))
+  no_bytes : n < 16 * length (found s) → Answered s n m (Err Room)
+  no_numbers : m < 2 * length (dropped s) → Answered s n m (Err Room)
 
--- What a piece answers over buffers of n bytes and m numbers. Code 0, the salvage behind it and its counts: all fits.
--- Code 16, the salvage as it was, and zeros: the piece ends past the last place that 64 bits can say, or what is to be
--- written does not fit, or what is to be listed.
-pub data PieceAnswered (t : Torn) (buf : List ℕ) (n m : ℕ) : Fed → Type 0 where
+-- What a piece answers over buffers of n bytes and m numbers. The salvage behind it and its counts: all fits. Refused
+-- for want of room: the piece ends past the last place that 64 bits can say, or what is to be written does not fit, or
+-- what is to be listed.
+pub data PieceAnswered (t : Torn) (buf : List ℕ) (n m : ℕ) : Result Fed Refusal → Type 0 where
   whole : t.place + length buf ≤ last_place → length (written t buf) ≤ n → 2 * length (listed t buf) ≤ m
       → PieceAnswered t buf n m
-      (record {
-        code = 0;
+      (Ok (record {
         torn = after t buf;
         done = length (decided t buf);
         kept = length (written t buf);
         cells = 2 * length (listed t buf);
-      })
-  too_far : last_place < t.place + length buf
-      → PieceAnswered t buf n m (record { code = 16; torn = t; done = 0; kept = 0; cells = 0 })
-  no_bytes : n < length (written t buf)
-      → PieceAnswered t buf n m (record { code = 16; torn = t; done = 0; kept = 0; cells = 0 })
-  no_numbers : m < 2 * length (listed t buf)
-      → PieceAnswered t buf n m (record { code = 16; torn = t; done = 0; kept = 0; cells = 0 })
+      }))
+  too_far : last_place < t.place + length buf → PieceAnswered t buf n m (Err Room)
+  no_bytes : n < length (written t buf) → PieceAnswered t buf n m (Err Room)
+  no_numbers : m < 2 * length (listed t buf) → PieceAnswered t buf n m (Err Room)

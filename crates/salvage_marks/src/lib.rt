@@ -9,11 +9,9 @@ pub struct Stretch {
     pub size: u64,
 }
 
-// A whole tape's salvage: code 0, or 16 where the buffers have no room for it; how many records are kept, how many
-// stretches dropped, and whether a header was kept.
+// A whole tape's salvage: how many records are kept, how many stretches dropped, and whether a header was kept.
 #[derive(Clone, Copy)]
 pub struct Salvaged {
-    pub code: u8,
     pub records: usize,
     pub stretches: usize,
     pub headed: bool,
@@ -28,11 +26,10 @@ pub struct Torn {
     pub headed: bool,
 }
 
-// What a piece came to: code 0, or 16 where the buffers have no room for it; the salvage behind it, how many bytes are
-// decided, how many of them are kept, and how many numbers are listed, two for each stretch that ended.
+// What a piece came to: the salvage behind it, how many bytes are decided, how many of them are kept, and how many
+// numbers are listed, two for each stretch that ended.
 #[derive(Clone, Copy)]
 pub struct Fed {
-    pub code: u8,
     pub torn: Torn,
     pub done: usize,
     pub kept: usize,

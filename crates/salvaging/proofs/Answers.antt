@@ -8,8 +8,9 @@ use borrow.Author.Tests.{le-leb, lt-leb}
 use lib.Dec.{eqb, leb}
 use lib.ListN.{length, length-append}
 use lib.Seq.{sets}
+use Rattle.std.specs.Prelude.{Ok, Err}
+use Rattle.rules.specs.declared.Refusal.TheVariants.{Room}
 use Rattle.salvage_marks.specs.declared.Torn.{Torn}
-use Rattle.salvage_marks.specs.declared.Fed.{Fed}
 use Rattle.salvage_marks.specs.declared.Salvaged.{Salvaged}
 use Rattle.salvage_marks.specs.Torn.{pick, closed, kept, dropped, found, cells, fits, salvaged_of, SalvagedTo}
 use Rattle.salvage_marks.specs.Pieces.{ended, last_place, opened, written, listed, after, fed_fits, fed_of, FedTo}
@@ -19,7 +20,7 @@ use Rattle.salvage_marks.proofs.Ahead.{ahead_few, pick_few, few_cells}
 use Rattle.salvage_marks.proofs.Chained.{one_kept, one_dropped}
 use Rattle.salvaging.specs.declared.Passed.{Passed}
 use Rattle.salvaging.specs.Walk.{marked_at, passed_of}
-use Rattle.salvaging.proofs.Stores.{sets_join}
+use Rattle.salvaging.specs.Lent.{sets_join}
 use Rattle.salvaging.proofs.Starts.{Starts}
 
 -- no more bytes are decided than were seen
@@ -45,21 +46,19 @@ module _ (t : Torn) (buf : List ℕ) (n m : ℕ) where
   unfolding fed_fits written listed passed_of
   fits_so b begin e o h = rw (le-leb (t.place + length buf) last_place o) (sym (rw e at h))
 
-pub no_feed : (t : Torn) (buf out list : List ℕ) (r : Fed) → r ≡ record { code = 16; torn = t; done = 0; kept = 0; cells = 0 }
-    → fed_fits t buf (length out) (length list) ≡ false → FedTo t buf out list r out list
+pub no_feed : (t : Torn) (buf out list : List ℕ) → fed_fits t buf (length out) (length list) ≡ false → FedTo t buf out list (Err Room) out list
 unfolding fed_of
-no_feed t buf out list r e f = rw f (e, refl, refl)
+no_feed t buf out list f = rw f (refl, refl, refl)
 
 pub fed_so : (t : Torn) (buf out list : List ℕ) {out' list' : List ℕ} (begin size : ℕ) (p : Passed) → fed_fits t buf (length out) (length list) ≡ true
     → begin ≡ opened t → Starts t.place begin size buf → p ≡ passed_of t.place begin buf
     → out' ≡ sets out 0 (pick (marked_at t.place buf) buf) → list' ≡ sets list 0 (cells (ended begin t.place (marked_at t.place buf)))
-    → FedTo t buf out list (record {
-      code = 0;
+    → FedTo t buf out list (Ok (record {
       torn = record { place = t.place + p.done; from = p.from; headed = t.headed || eqb size 16 };
       done = p.done;
       kept = p.kept;
       cells = p.cells;
-    }) out' list'
+    })) out' list'
 unfolding fed_of after written listed passed_of
 fed_so t buf out list begin size p f e s ep eo el = rw (f, ep, eo, el, s.header, e) (refl, refl, refl)
 
@@ -100,13 +99,12 @@ module _ (s : List ℕ) (n m : ℕ) where
   unfolding fits
   all_fits a b = rw (le-leb (length (kept s)) n (omega (arith, kept_count s)), le-leb (length (cells (dropped s))) m (omega (arith, cells_count s)))
 
-pub no_salvage : (s out list : List ℕ) (r : Salvaged) → r ≡ record { code = 16; records = 0; stretches = 0; headed = false }
-    → fits s (length out) (length list) ≡ false → SalvagedTo s out list r out list
+pub no_salvage : (s out list : List ℕ) → fits s (length out) (length list) ≡ false → SalvagedTo s out list (Err Room) out list
 unfolding salvaged_of
-no_salvage s out list r e f = rw f (e, refl, refl)
+no_salvage s out list f = rw f (refl, refl, refl)
 
 same : {a b a' b' : ℕ} {h h' : Bool} → a ≡ a' → b ≡ b' → h ≡ h'
-    → ◌≡◌ {A = Salvaged} (record { code = 0; records = a; stretches = b; headed = h }) (record { code = 0; records = a'; stretches = b'; headed = h' })
+    → ◌≡◌ {A = Salvaged} (record { records = a; stretches = b; headed = h }) (record { records = a'; stretches = b'; headed = h' })
 same p q r = cc
 
 ended_count : (s : List ℕ) → length (cells (ended 0 0 (marked_at 0 s))) ≡ (all_of s).cells
@@ -122,9 +120,9 @@ list_joined s list =
 pub salvaged_so : (s out list : List ℕ) {out' list' list'' : List ℕ} (size j : ℕ) (p : Passed) → fits s (length out) (length list) ≡ true → Starts 0 0 size s
     → p ≡ all_of s → out' ≡ sets out 0 (pick (marked_at 0 s) s) → list' ≡ sets list 0 (cells (ended 0 0 (marked_at 0 s)))
     → list'' ≡ sets list' p.cells (cells (closed p.from (length s) [])) → j ≡ p.cells + length (cells (closed p.from (length s) []))
-    → SalvagedTo s out list (record { code = 0; records = p.kept / 16; stretches = j / 2; headed = eqb size 16 }) out' list''
+    → SalvagedTo s out list (Ok (record { records = p.kept / 16; stretches = j / 2; headed = eqb size 16 })) out' list''
 unfolding salvaged_of
 salvaged_so s out list size j p f st ep eo el ell ej =
     let k : p.kept ≡ 16 * length (found s) = ap (λ (x : Passed). x.kept) ep ∙ sym (kept_count s) ∙ kept_long s in
     let c : j ≡ 2 * length (dropped s) = ej ∙ rw ep (sym (cells_count s) ∙ cells_long (dropped s)) in
-    rw f (same (omega arith) (omega arith) st.header, eo ∙ ap (sets out 0) (sym (whole_kept s)), ell ∙ rw (ep, el) (list_joined s list))
+    rw f (ap Ok (same (omega arith) (omega arith) st.header), eo ∙ ap (sets out 0) (sym (whole_kept s)), ell ∙ rw (ep, el) (list_joined s list))

@@ -1,5 +1,5 @@
 -- No second answer of the salvage's public functions: of any tape, piece, salvage and buffers, only one answer meets the contract as the check states it, and
--- only one contents of each lent buffer is left behind. Rules out: a contract that leaves a code, a count, a place or a byte of a buffer open. Leaves: which
+-- only one contents of each lent buffer is left behind. Rules out: a contract that leaves a refusal, a count, a place or a byte of a buffer open. Leaves: which
 -- answer it is (salvage_marks/specs). (The law: crate one_answer, proofs/Law.) Assumes nothing.
 use Prim.Native.Nat.{ℕ}
 use mathlib.Core.List.{List}
@@ -10,6 +10,8 @@ use prog.Routine.{Routine}
 use types.Logic.{Logic}
 use contract.Monad.{Fun}
 use Rattle.one_answer.proofs.Law.{OneAnswer, OneEnd, one, both, each_of_two, each_of_three}
+use Rattle.std.specs.Prelude.{Result}
+use Rattle.rules.specs.declared.Refusal.{Refusal}
 use Rattle.salvage_marks.specs.declared.Fed.{Fed}
 use Rattle.salvage_marks.specs.declared.Salvaged.{Salvaged}
 use Rattle.salvaging.specs.contracts.at_first
@@ -23,7 +25,7 @@ module _ {M : Type 1} {𝓤 : Ura M} (𝓛 : Logic 𝓤) (mem : Memory → SProp
   at_first_single κs a g r s d e = one 𝓤 _ _ _
 
   -- the answer and both buffers
-  pub feed_single : OneEnd 𝓤 feed.ended (feed.clauses 𝓛 mem run) (Fed × List ℕ × List ℕ) (λ κs r e. (r, e.1.1.0.now, e.1.1.1.0.now))
+  pub feed_single : OneEnd 𝓤 feed.ended (feed.clauses 𝓛 mem run) (Result Fed Refusal × List ℕ × List ℕ) (λ κs r e. (r, e.1.1.0.now, e.1.1.1.0.now))
   feed_single κs a g r s d e = both 𝓤 _ _ _ each_of_three
 
   -- the count and the buffer
@@ -34,5 +36,5 @@ module _ {M : Type 1} {𝓤 : Ura M} (𝓛 : Logic 𝓤) (mem : Memory → SProp
   last_stretch_single κs a g r s d e = one 𝓤 _ _ _
 
   -- the answer and both buffers
-  pub salvage_single : OneEnd 𝓤 salvage.ended (salvage.clauses 𝓛 mem run) (Salvaged × List ℕ × List ℕ) (λ κs r e. (r, e.1.0.now, e.1.1.0.now))
+  pub salvage_single : OneEnd 𝓤 salvage.ended (salvage.clauses 𝓛 mem run) (Result Salvaged Refusal × List ℕ × List ℕ) (λ κs r e. (r, e.1.0.now, e.1.1.0.now))
   salvage_single κs a g r s d e = both 𝓤 _ _ _ each_of_three

@@ -1,6 +1,6 @@
 -- Where a pass starts: behind a header that is kept at byte 0, or at the first byte, and then byte 0 is a place like any other. And a whole tape as one piece.
 -- Assumes nothing.
-use Prim.Native.Nat.{ℕ, zero, ◌+◌, ◌/◌, ◌%◌, ◌≤◌, ◌<◌}
+use Prim.Native.Nat.{ℕ, zero, ◌+◌, ◌/◌, ◌≤◌, ◌<◌}
 use native.Mathlib.Omega.{arith}
 use mathlib.Core.Path.{◌≡◌, refl, sym, ap, ◌∙◌}
 use mathlib.Core.Bool.{Bool, true, false, cond, ◌&&◌}
@@ -18,7 +18,7 @@ use Rattle.salvage_marks.proofs.Ahead.{ahead_keep, ended_trues, begun_trues, pic
 use Rattle.salvage_marks.proofs.Reader.{headed_made, not_headed}
 use Rattle.salvaging.specs.declared.Passed.{Passed}
 use Rattle.salvaging.specs.Walk.{head_size, marked_at, passed_of, to_go, passed_on}
-use Rattle.salvaging.proofs.Stores.{sets_join}
+use Rattle.salvaging.specs.Lent.{sets_join}
 
 -- ---- how long the header is
 
@@ -48,7 +48,6 @@ pub record Starts (place begin size : ℕ) (buf : List ℕ) : Type 0 where
   pub bytes : pick (marked_at place buf) buf ≡ take size buf ++ pick (to_go buf size) (drop size buf)
   pub stretches : ended begin place (marked_at place buf) ≡ ended (begin + size) (place + size) (to_go buf size)
   pub header : eqb size 16 ≡ (eqb place 0 && headed buf)
-  pub one : (size ≤ 16) × (size % 16 ≡ 0)
 
 plain : (place : ℕ) (buf : List ℕ) → (eqb place 0 && headed buf) ≡ false → marked_at place buf ≡ ahead false zero buf
 unfolding ahead
@@ -74,7 +73,6 @@ module _ (place begin : ℕ) (buf : List ℕ) (u : begin ≤ place) where
         bytes = ap (λ (x : List Bool). pick x buf) D ∙ pick_trues 16 (to_go buf 16) buf o;
         stretches = ap (ended begin place) D ∙ rw (b, z) (ended_trues 15 0 0 (to_go buf 16) ∙ closed_none 0 _);
         header = sym e;
-        one = (omega arith, refl);
       }
 
   at_once : (eqb place 0 && headed buf) ≡ false → Starts place begin 0 buf
@@ -89,7 +87,6 @@ module _ (place begin : ℕ) (buf : List ℕ) (u : begin ≤ place) where
         bytes = ap (λ (x : List Bool). pick x buf) D;
         stretches = rw (x, y) (ap (ended begin place) D);
         header = sym e;
-        one = (omega arith, refl);
       }
 
   pub starts : (size : ℕ) → size ≡ head_size place buf → Starts place begin size buf

@@ -8,24 +8,25 @@ use mathlib.Core.Bool.{Bool, true, false, ◌||◌}
 use mathlib.Core.List.{List, [], ◌∷◌, ◌++◌}
 use borrow.Author.Tests.{le-leb}
 use lib.ListN.{length, take, drop, get_or, replicate, length-append, length-drop}
-use lib.Seq.{sets, length-take-le, drop-drop, drop-cons}
+use lib.Seq.{length-take-le, drop-drop, drop-cons}
 use Rattle.record.specs.Form.{is_command}
+use Rattle.std.specs.Prelude.{Option, Some, option_to_list}
+use Rattle.salvage_marks.specs.declared.Stretch.{Stretch}
 use Rattle.salvage_marks.specs.Torn.{makes, pick, closed, cells}
-use Rattle.salvage_marks.specs.Pieces.{ahead, ended, begun}
-use Rattle.salvage_marks.proofs.Marks.{pick_trues, closed_one, closed_no, closed_join, cells_join}
+use Rattle.salvage_marks.specs.Pieces.{ahead, ended, begun, stretch_of}
+use Rattle.salvage_marks.proofs.Marks.{pick_trues, closed_join, cells_join}
 use Rattle.salvage_marks.proofs.Ahead.{ahead_keep, ahead_drop, ahead_short, ended_trues, begun_trues, closed_cells}
+use Rattle.salvage_marks.proofs.Chained.{one_closed}
 use Rattle.salvaging.specs.declared.Passed.{Passed}
 use Rattle.salvaging.specs.Walk.{to_go, passed_on}
-use Rattle.salvaging.proofs.Stores.{sets_join}
 
--- a stretch as numbers
-pub cells_one : (from at : ℕ) → from < at → cells (closed from at []) ≡ from ∷ (at - from) ∷ []
-unfolding cells
-cells_one from at o = rw (closed_one from at [] o)
+-- a stretch that ended, as numbers
+pub ended_numbers : (from at : ℕ) {o : Option Stretch} → o ≡ stretch_of from at → cells (option_to_list o) ≡ cells (closed from at [])
+ended_numbers from at e = ap cells (ap option_to_list e ∙ one_closed from at)
 
-pub cells_no : (from at : ℕ) → at ≤ from → cells (closed from at []) ≡ []
+pub two_cells : {o : Option Stretch} {x : Stretch} → o ≡ Some x → length (cells (option_to_list o)) ≡ 2
 unfolding cells
-cells_no from at o = rw (closed_no from at [] o)
+two_cells e = rw e
 
 pub cells_two : (from at : ℕ) → length (cells (closed from at [])) ≤ 2
 unfolding cells
@@ -102,17 +103,6 @@ module _ (buf : List ℕ) (place at from : ℕ) (o : at + 16 ≤ length buf) (m 
       ap (λ (x : List Bool). length x) keep_marks ∙ length-append (replicate 16 true) (to_go buf (at + 16)) in
       same (omega arith) (sym keep_begun) (omega (arith, keep_long)) (omega (arith, numbers_long))
 
-  pub keep_out : (out : List ℕ) (w : ℕ) → sets (sets out w (take 16 (drop at buf))) (w + 16) (bytes_on buf (at + 16)) ≡ sets out w (bytes_on buf at)
-  keep_out out w =
-      let n : length (take 16 (drop at buf)) ≡ 16 = length-take-le 16 (drop at buf) here in
-      ap (λ (k : ℕ). sets (sets out w (take 16 (drop at buf))) (w + k) (bytes_on buf (at + 16))) (sym n)
-      ∙ sym (sets_join out w (take 16 (drop at buf)) (bytes_on buf (at + 16))) ∙ ap (sets out w) (sym keep_bytes)
-
-  pub keep_list : (list : List ℕ) (j j' : ℕ) → j' ≡ j + length (cells (closed from (place + at) []))
-      → sets (sets list j (cells (closed from (place + at) []))) j' (numbers_on buf place (at + 16) (place + (at + 16)))
-      ≡ sets list j (numbers_on buf place at from)
-  keep_list list j j' e = rw e (sym (sets_join list j (cells (closed from (place + at) [])) _) ∙ ap (sets list j) (sym keep_numbers))
-
 module _ (buf : List ℕ) (place at from : ℕ) (o : at + 16 ≤ length buf) (m : false ≡ is_command (take (at + 16 - at) (drop at buf))) where
   front : drop at buf ≡ get_or buf at 0 ∷ drop (at + 1) buf
   front = drop-cons buf at 0 (omega arith) ∙ rw (add-one at)
@@ -159,3 +149,15 @@ module _ (buf : List ℕ) (place at from : ℕ) (o : length buf - at < 16) where
   pub stop_numbers : numbers_on buf place at from ≡ []
   unfolding ended cells
   stop_numbers = rw none
+
+-- ---- what a sink got: of any sink, by its laws
+
+module _ {S : Type 0} (Puts : S → ℕ → ℕ → List ℕ → List ℕ → S → Type 0) where
+  pub puts_same : {s t : S} {w j : ℕ} {p q x y : List ℕ} → p ≡ q → x ≡ y → Puts s w j p x t → Puts s w j q y t
+  puts_same e f h = rw (← e, ← f) h
+
+  -- a record and a stretch, and behind them the rest
+  pub put_on : ((s t u : S) (w j : ℕ) (p q x y : List ℕ) → Puts s w j p x t → Puts t (w + length p) (j + length x) q y u → Puts s w j (p ++ q) (x ++ y) u)
+      → (s t u : S) (w j n : ℕ) (p q x y : List ℕ) {a b : List ℕ} → Puts s w j p x t → length p ≡ 16 → n ≡ length x → a ≡ p ++ q → b ≡ x ++ y
+      → Puts t (w + 16) (j + n) q y u → Puts s w j a b u
+  put_on more s t u w j n p q x y h l m e f k = rw (e, f) (more s t u w j p q x y h (rw (l, ← m) k))

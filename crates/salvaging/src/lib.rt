@@ -5,40 +5,34 @@
 // piece, then `last_stretch`. No public function has a `requires`. salvage_marks/specs says what each answer is.
 #![tactic(auto)]
 
-ghost use Rattle.std.specs.Prelude.{◌≡◌, ◌&&◌, false, [], ◌+◌, ◌%◌, ◌≤◌, ◌<◌, ◌^◌, length, take, drop, leb};
+mod sinks;
+
+ghost use Rattle.std.specs.Prelude.{◌≡◌, ◌&&◌, length, leb, drop, ◌+◌, ◌≤◌, ◌<◌, ◌^◌};
 ghost use Rattle.std.proofs.lemmas.List.Edits.{sets};
 ghost use Rattle.salvage_marks.specs.Torn as torn;
 ghost use Rattle.salvage_marks.specs.Pieces as pieces;
 ghost use Rattle.salvaging.specs.Walk as walk;
 
+use crate::sinks::{Buffers, Nowhere, Sink, keep, list_one, numbers};
 use record::RECORD_BYTES;
 use record_bytes::{is_command, is_header};
+use rules::Refusal;
 pub use salvage_marks::{Fed, Salvaged, Stretch, Torn};
-
-// No place is behind this one: a tape has fewer than 2^64 bytes.
-const LAST_PLACE: u64 = 18446744073709551615;
 
 // What a pass over bytes comes to: how many are decided, where the open stretch begins, the bytes kept and the numbers
 // listed.
 #[derive(Clone, Copy)]
 struct Passed {
     done: usize,
-    from: usize,
+    from: u64,
     kept: usize,
     cells: usize,
 }
 
-// ---- One record, one stretch
-
-fn least(x: u64, y: u64) -> u64
-    ensures { result ≡ pieces.least x y }
-{
-    if y < x { y } else { x }
-}
-
-// Whether a header stands at byte 0 is asked once, before the loops: these look for command records only, by a test
-// that is small enough to stand inside them.
-fn head(buf: &[u8], place: usize) -> usize
+// Whether a header stands at byte 0 is asked once, before the loop: that looks for command records only, by a test that
+// is small enough to stand inside it.
+// Kept (plain): 0 or 16 is a size, no flag: a pass begins behind so many bytes, and counts and copies as many.
+fn head(buf: &[u8], place: u64) -> usize
     ensures { result ≡ walk.head_size place buf.now }
 {
     if place != 0 {
@@ -53,164 +47,19 @@ fn head(buf: &[u8], place: usize) -> usize
     0
 }
 
-// 16 bytes, all read before any is written: so that they are copied as one, where the compiler cannot see that the
-// two tapes lie apart.
-fn sixteen(p: &[u8]) -> [u8; 16]
-    requires { length p.now ≡ 16 }
-    ensures { result ≡ p.now }
-{
-    [
-        p[0], p[1], p[2], p[3], p[4], p[5], p[6], p[7], p[8], p[9], p[10], p[11], p[12], p[13],
-        p[14], p[15],
-    ]
-}
-
-// The record at an index goes to the new tape.
-fn keep(out: &mut [u8], w: usize, buf: &[u8], at: usize)
-    requires { (w + 16 ≤ length out.old) × (at + 16 ≤ length buf.now) }
-    ensures { out.new ≡ sets out.old w (take 16 (drop at buf.now)) }
-{
-    let end = at + RECORD_BYTES;
-    let p = sixteen(&buf[at..end]);
-    let mut i: usize = 0;
-    while i < RECORD_BYTES {
-        out[w + i] = p[i];
-        i += 1;
-    }
-}
-
-// The header goes to the new tape: 16 bytes, or none.
-fn keep_head(out: &mut [u8], buf: &[u8], size: usize)
-    requires { (size ≤ 16) × (size % 16 ≡ 0) × (size ≤ length out.old) × (size ≤ length buf.now) }
-    ensures { out.new ≡ sets out.old 0 (take size buf.now) }
-{
-    if size != RECORD_BYTES {
-        return;
-    }
-    keep(out, 0, buf, 0);
-}
-
-// How many numbers list a stretch: none for an empty one.
-fn numbers(from: usize, at: usize) -> usize
-    ensures { result ≡ length (torn.cells (torn.closed from at [])) }
-{
-    if from < at { 2 } else { 0 }
-}
-
-// Lists a stretch that is not empty; the index behind it.
-fn list_one(list: &mut [u64], j: usize, from: usize, at: usize) -> usize
-    requires { j + length (torn.cells (torn.closed from at [])) ≤ length list.old }
-    ensures listed { list.new ≡ sets list.old j (torn.cells (torn.closed from at [])) }
-    ensures behind { result ≡ j + length (torn.cells (torn.closed from at [])) }
+// The stretch from a place up to another, if it has a byte.
+fn stretch(from: u64, at: u64) -> Option<Stretch>
+    ensures { result ≡ pieces.stretch_of from at }
 {
     if from < at {
-        list[j] = from as u64;
-        let k = j + 1;
-        list[k] = (at - from) as u64;
-        return j + 2;
-    }
-    j
-}
-
-// ---- The two loops
-
-// What a pass would come to; nothing is written.
-fn measure(buf: &[u8], place: usize, begin: usize, size: usize) -> Passed
-    requires { (size ≡ walk.head_size place buf.now) × (begin ≤ place) × (place + length buf.now < 2 ^ 64) }
-    ensures { result ≡ walk.passed_of place begin buf.now }
-{
-    let mut at = size;
-    let mut from = begin + size;
-    let mut kept = size;
-    let mut cells: usize = 0;
-    while RECORD_BYTES <= buf.len() - at {
-        let end = at + RECORD_BYTES;
-        if is_command(&buf[at..end]) {
-            cells += numbers(from, place + at);
-            kept += RECORD_BYTES;
-            at = end;
-            from = place + end;
-        } else {
-            at += 1; // no record begins here
-        }
-    }
-    Passed {
-        done: at,
-        from,
-        kept,
-        cells,
+        Some(Stretch {
+            first: from,
+            size: at - from,
+        })
+    } else {
+        None
     }
 }
-
-// A pass: behind the `size` bytes of a header that is kept already, each record goes to the new tape and each stretch
-// that ends to the list.
-fn pass(
-    buf: &[u8],
-    place: usize,
-    begin: usize,
-    size: usize,
-    out: &mut [u8],
-    list: &mut [u64],
-) -> Passed
-    requires { (size ≤ length buf.now) × (place + length buf.now < 2 ^ 64)
-        × ((walk.passed_on buf.now place size begin size 0).kept ≤ length out.old)
-        × ((walk.passed_on buf.now place size begin size 0).cells ≤ length list.old) }
-    ensures passed { result ≡ walk.passed_on buf.now place size begin size 0 }
-    ensures out { out.new
-        ≡ sets out.old size
-        (torn.pick (walk.to_go buf.now size) (drop size buf.now)) }
-    ensures list { list.new
-        ≡ sets list.old 0
-        (torn.cells (pieces.ended begin (place + size) (walk.to_go buf.now size))) }
-{
-    let mut at = size;
-    let mut from = begin;
-    let mut w = size;
-    let mut j: usize = 0;
-    while RECORD_BYTES <= buf.len() - at {
-        let end = at + RECORD_BYTES;
-        if is_command(&buf[at..end]) {
-            j = list_one(list, j, from, place + at);
-            keep(out, w, buf, at);
-            w += RECORD_BYTES;
-            at = end;
-            from = place + end;
-        } else {
-            at += 1; // this byte is dropped
-        }
-    }
-    Passed {
-        done: at,
-        from,
-        kept: w,
-        cells: j,
-    }
-}
-
-// The same with the header.
-fn put(
-    buf: &[u8],
-    place: usize,
-    begin: usize,
-    size: usize,
-    out: &mut [u8],
-    list: &mut [u64],
-) -> Passed
-    requires { (size ≡ walk.head_size place buf.now) × (begin ≤ place) × (place + length buf.now < 2 ^ 64)
-        × ((walk.passed_of place begin buf.now).kept ≤ length out.old)
-        × ((walk.passed_of place begin buf.now).cells ≤ length list.old) }
-    ensures passed { result ≡ walk.passed_of place begin buf.now }
-    ensures out { out.new
-        ≡ sets out.old 0 (torn.pick (walk.marked_at place buf.now) buf.now) }
-    ensures list { list.new
-        ≡ sets list.old 0
-        (torn.cells (pieces.ended begin place (walk.marked_at place buf.now))) }
-{
-    keep_head(out, buf, size);
-    pass(buf, place, begin + size, size, out, list)
-}
-
-// ---- In pieces
 
 // Long enough for any so many bytes, whatever they are.
 fn long_enough(many: usize, n: usize, m: usize) -> bool
@@ -219,19 +68,108 @@ fn long_enough(many: usize, n: usize, m: usize) -> bool
     (many <= n) & (many / 8 <= m)
 }
 
-// What is to be written and listed fits for sure, or is measured and fits.
-fn holds(buf: &[u8], place: usize, begin: usize, size: usize, n: usize, m: usize) -> bool
-    requires { (size ≡ walk.head_size place buf.now) × (begin ≤ place) × (place + length buf.now < 2 ^ 64) }
-    ensures { result
-        ≡ (leb (walk.passed_of place begin buf.now).kept n
-        && leb (walk.passed_of place begin buf.now).cells m) }
-{
-    if long_enough(buf.len(), n, m) {
-        return true;
-    }
-    let p = measure(buf, place, begin, size);
-    (p.kept <= n) & (p.cells <= m)
+// Bytes of a tape that are looked at: they begin at a place, every byte since `begin` was dropped, and at their front
+// stands a header of so many bytes that is kept, or none.
+#[derive(Clone, Copy)]
+struct Seen<'a> {
+    buf: &'a [u8],
+    place: u64,
+    begin: u64,
+    head: usize,
+    ghost opened: { begin ≤ place },
+    ghost ends: { place + length buf.now < 2 ^ 64 },
+    ghost headed: { head ≡ walk.head_size place buf.now },
 }
+
+impl<'a> Seen<'a> {
+    fn new(t: Torn, buf: &'a [u8]) -> Seen<'a>
+        requires { t.place + length buf.now ≤ pieces.last_place }
+        ensures { (result.buf.now ≡ buf.now) × (result.place ≡ t.place) × (result.begin ≡ pieces.opened t) }
+    {
+        let head = head(buf, t.place);
+        Seen {
+            buf,
+            place: t.place,
+            begin: t.from.min(t.place),
+            head,
+        }
+    }
+
+    // A pass: behind the header each record and each stretch that ends goes to the sink.
+    // Kept (plain): the loop goes on by a record's 16 bytes or by one, as it finds them, so it counts its index itself.
+    fn pass<S: Sink>(&self, sink: &mut S) -> Passed
+        requires { S.Room sink.old (walk.passed_of self.now.place self.now.begin self.now.buf.now).kept
+            (walk.passed_of self.now.place self.now.begin self.now.buf.now).cells }
+        ensures passed { result ≡ walk.passed_of self.now.place self.now.begin self.now.buf.now }
+        ensures put { S.Puts sink.old self.now.head 0
+            (torn.pick (walk.to_go self.now.buf.now self.now.head) (drop self.now.head self.now.buf.now))
+            (torn.cells (pieces.ended (self.now.begin + self.now.head) (self.now.place + self.now.head) (walk.to_go self.now.buf.now self.now.head)))
+            sink.new }
+    {
+        let mut at = self.head;
+        let mut from = self.begin + self.head as u64;
+        let mut kept = self.head;
+        let mut cells: usize = 0;
+        while RECORD_BYTES <= self.buf.len() - at {
+            let end = at + RECORD_BYTES;
+            let record = &self.buf[at..end];
+            if is_command(record) {
+                let ended = stretch(from, self.place + at as u64);
+                sink.put(kept, record, cells, ended);
+                cells += numbers(ended);
+                kept += RECORD_BYTES;
+                at = end;
+                from = self.place + end as u64;
+            } else {
+                at += 1; // no record begins here
+            }
+        }
+        Passed {
+            done: at,
+            from,
+            kept,
+            cells,
+        }
+    }
+
+    // What a pass would come to; nothing is written.
+    fn measure(&self) -> Passed
+        ensures { result ≡ walk.passed_of self.now.place self.now.begin self.now.buf.now }
+    {
+        self.pass(&mut Nowhere)
+    }
+
+    // What is to be written and listed fits for sure, or is measured and fits.
+    fn fits(&self, n: usize, m: usize) -> bool
+        ensures { result
+            ≡ (leb (walk.passed_of self.now.place self.now.begin self.now.buf.now).kept n
+            && leb (walk.passed_of self.now.place self.now.begin self.now.buf.now).cells m) }
+    {
+        if long_enough(self.buf.len(), n, m) {
+            return true;
+        }
+        let p = self.measure();
+        (p.kept <= n) & (p.cells <= m)
+    }
+
+    // The header and the pass, into two buffers that have room.
+    fn write(&self, out: &mut [u8], list: &mut [u64]) -> Passed
+        requires { ((walk.passed_of self.now.place self.now.begin self.now.buf.now).kept ≤ length out.old)
+            × ((walk.passed_of self.now.place self.now.begin self.now.buf.now).cells ≤ length list.old) }
+        ensures passed { result ≡ walk.passed_of self.now.place self.now.begin self.now.buf.now }
+        ensures out { out.new
+            ≡ sets out.old 0 (torn.pick (walk.marked_at self.now.place self.now.buf.now) self.now.buf.now) }
+        ensures list { list.new
+            ≡ sets list.old 0
+            (torn.cells (pieces.ended self.now.begin self.now.place (walk.marked_at self.now.place self.now.buf.now))) }
+    {
+        keep(out, 0, &self.buf[..self.head]);
+        let mut both = Buffers { out, list };
+        self.pass(&mut both)
+    }
+}
+
+// ---- In pieces
 
 // Before the first byte.
 pub fn at_first() -> Torn
@@ -244,47 +182,32 @@ pub fn at_first() -> Torn
     }
 }
 
-fn refused(t: Torn) -> Fed
-    ensures { result ≡ record { code = 16; torn = t; done = 0; kept = 0; cells = 0 } }
-{
-    Fed {
-        code: 16,
-        torn: t,
-        done: 0,
-        kept: 0,
-        cells: 0,
-    }
-}
-
 // A piece more: `buf` is the held bytes and the piece behind them. What is kept of it stands at the front of `out`, the
 // stretches that ended at the front of `list`; what `buf` holds behind `done` the caller puts in front of its next
-// piece. Answers 16 where that does not fit or a place would pass 2^64; then nothing is written.
-pub fn feed(t: Torn, buf: &[u8], out: &mut [u8], list: &mut [u64]) -> Fed
+// piece. It is refused where that does not fit or a place would pass 2^64; then nothing is written.
+pub fn feed(t: Torn, buf: &[u8], out: &mut [u8], list: &mut [u64]) -> Result<Fed, Refusal>
     ensures { pieces.FedTo t buf.now out.old list.old result out.new
         list.new }
 {
-    if LAST_PLACE - t.place < buf.len() as u64 {
-        return refused(t);
+    if u64::MAX - t.place < buf.len() as u64 {
+        return Err(Refusal::Room);
     }
-    let place = t.place as usize;
-    let begin = least(t.from, t.place) as usize;
-    let size = head(buf, place);
-    if !holds(buf, place, begin, size, out.len(), list.len()) {
-        return refused(t);
+    let seen = Seen::new(t, buf);
+    if !seen.fits(out.len(), list.len()) {
+        return Err(Refusal::Room);
     }
-    let p = put(buf, place, begin, size, out, list);
+    let p = seen.write(out, list);
     let torn = Torn {
         place: t.place + p.done as u64,
-        from: p.from as u64,
-        headed: t.headed | (size == RECORD_BYTES),
+        from: p.from,
+        headed: t.headed | (seen.head == RECORD_BYTES),
     };
-    Fed {
-        code: 0,
+    Ok(Fed {
         torn,
         done: p.done,
         kept: p.kept,
         cells: p.cells,
-    }
+    })
 }
 
 // Moves the bytes of a buffer from `done` up to `n` to its front; how many they are. Where there are none such, nothing
@@ -298,71 +221,41 @@ pub fn move_down(buf: &mut [u8], done: usize, n: usize) -> usize
     if buf.len() < n {
         return 0;
     }
-    let size = n - done;
-    let mut i: usize = 0;
-    while i < size {
-        buf[i] = buf[done + i];
-        i += 1;
-    }
-    size
+    buf.copy_within(done..n, 0);
+    n - done
 }
 
-// A sum of places, at most the last place.
-fn reach(place: u64, n: u64) -> u64
-    ensures { result ≡ pieces.least (place + n) pieces.last_place }
-{
-    if LAST_PLACE - place < n {
-        return LAST_PLACE;
-    }
-    place + n
-}
-
-// The end of the tape, with so many bytes held: the last dropped stretch, of size 0 where there is none.
-pub fn last_stretch(t: Torn, held: usize) -> Stretch
+// The end of the tape, with so many bytes held: the last dropped stretch, if there is one.
+pub fn last_stretch(t: Torn, held: usize) -> Option<Stretch>
     ensures { result ≡ pieces.last_of t held }
 {
-    let first = least(t.from, t.place);
-    let end = reach(t.place, held as u64);
-    Stretch {
-        first,
-        size: end - first,
-    }
+    let first = t.from.min(t.place);
+    let end = t.place.saturating_add(held as u64);
+    stretch(first, end)
 }
 
 // ---- A whole tape
 
-fn no_room() -> Salvaged
-    ensures { result ≡ record { code = 16; records = 0; stretches = 0; headed = false } }
-{
-    Salvaged {
-        code: 16,
-        records: 0,
-        stretches: 0,
-        headed: false,
-    }
-}
-
 // Writes the kept records to `out` and the dropped stretches to `list`, two numbers each, from their fronts on. What
-// they take is measured first: 16 where the one or the other does not fit, and then nothing is written.
-pub fn salvage(tape: &[u8], out: &mut [u8], list: &mut [u64]) -> Salvaged
+// they take is measured first: refused where the one or the other does not fit, and then nothing is written.
+pub fn salvage(tape: &[u8], out: &mut [u8], list: &mut [u64]) -> Result<Salvaged, Refusal>
     ensures { torn.SalvagedTo tape.now out.old list.old result out.new
         list.new }
 {
-    let size = head(tape, 0);
-    let m = measure(tape, 0, 0, size);
-    let last = numbers(m.from, tape.len());
+    let seen = Seen::new(at_first(), tape);
+    let m = seen.measure();
+    let last = stretch(m.from, tape.len() as u64);
     if out.len() < m.kept {
-        return no_room();
+        return Err(Refusal::Room);
     }
-    if list.len() < m.cells + last {
-        return no_room();
+    if list.len() < m.cells + numbers(last) {
+        return Err(Refusal::Room);
     }
-    let p = put(tape, 0, 0, size, out, list);
-    let cells = list_one(list, p.cells, p.from, tape.len());
-    Salvaged {
-        code: 0,
+    let p = seen.write(out, list);
+    list_one(list, p.cells, last);
+    Ok(Salvaged {
         records: p.kept / RECORD_BYTES,
-        stretches: cells / 2,
-        headed: size == RECORD_BYTES,
-    }
+        stretches: (p.cells + numbers(last)) / 2,
+        headed: seen.head == RECORD_BYTES,
+    })
 }

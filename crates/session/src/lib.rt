@@ -6,7 +6,7 @@ ghost use Rattle.std.specs.Prelude.{◌≡◌};
 ghost use Rattle.kernel.specs.Step.{tables};
 ghost use Rattle.session.specs.CarriedOut as carried;
 
-use kernel::{Answer, Command, TaskID, in_place};
+use kernel::{Answer, Command, TaskID, on_tables};
 use text::{Row, Spoken};
 
 // The number of the next line.
@@ -72,7 +72,7 @@ pub fn carry_out(
         b: s.b,
         value: s.value,
     };
-    let answer = in_place::step(
+    let answer = on_tables::step(
         base, ready, delayed, held, way, until, ceiling, waiter, clock, started, c,
     );
     row_of(n, s, answer, *clock)

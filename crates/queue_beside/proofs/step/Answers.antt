@@ -5,8 +5,5 @@ use Rattle.queue_beside.proofs.step.Goals as goal
 
 pub returns : goal.returns
 returns c =
-    let done = c in
-    let ran = done in
-    let a = ran.args in
-    moved a.s a.q (to_rules a.c) done.step-done.result ran.runner-runner.result c.follow_accepted-queue.result done.step-done.ensures ran.runner-runner.ensures
-    c.follow_accepted-queue.ensures
+    moved c.args.s c.args.q (to_rules c.args.c) c.step-done.result c.runner-runner.result c.follow_accepted-queue.result c.step-done.ensures
+    c.runner-runner.ensures c.follow_accepted-queue.ensures

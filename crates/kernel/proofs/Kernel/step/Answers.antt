@@ -1,4 +1,4 @@
--- `Kernel::step` is step_of: the tables are lent to `step` in place, and what it leaves in them is the next state. Assumes nothing.
+-- `Kernel::step` is step_of: the step in place on the state that came by value. Assumes nothing.
 use Rattle.kernel.proofs.Kernel.step.Goals as goal
 
 pub returns : goal.returns

@@ -10,19 +10,15 @@ returns-then-pending-eq0 c = let a = c.args in none_sound a.started a.base.now a
 
 pub loop-t-init : goal.loop-t-init
 unfolding all_below
-loop-t-init c = (omega arith, refl)
+loop-t-init c = refl
 
 pub loop-t-preserved : goal.loop-t-preserved
 loop-t-preserved c =
-    let h = c in
-    let a = h.args in (
-      omega arith,
-      rw (c.has.ensures, c.of_task.ensures) (one_allowed a.started a.base.now a.pending h.loop-t.t h.loop-t.fit h.loop-t.invariant.1),
-    )
+    let a = c.args in
+    rw (c.has.ensures, c.of_task.ensures) (one_allowed a.started a.base.now a.pending c.loop-t.t c.loop-t.fit c.loop-t.invariant)
 
 pub returns : goal.returns
 returns c =
-    let h = c in
-    let a = h.args in
-    let end : h.loop-t.t ≡ 32 = omega arith in
-    all_sound a.started a.base.now a.pending h.ranges.pending.fits h.loop-t.fit (rw end at h.loop-t.invariant.1)
+    let a = c.args in
+    let end : c.loop-t.t ≡ 32 = omega arith in
+    all_sound a.started a.base.now a.pending c.ranges.pending.fits c.loop-t.fit (rw end at c.loop-t.invariant)

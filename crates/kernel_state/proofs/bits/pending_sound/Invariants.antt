@@ -1,12 +1,8 @@
 -- `bits::pending_sound` meets its contract. The invariant: what is pending for the tasks passed is sound. Assumes nothing.
-use Prim.Native.Nat.{◌-◌, ◌≤◌}
 use mathlib.Core.Path.{◌≡◌}
 use Rattle.rules.specs.Line.{all_below}
 use Rattle.kernel_state.proofs.Laws.{allowed}
 use Rattle.kernel_state.proofs.bits.pending_sound.Given as goal
 
 abbrev pub invariant-loop-t : goal.invariant-loop-t
-invariant-loop-t l = (l.t ≤ 32) × (l.fit ≡ all_below l.t (allowed l.started l.base l.pending))
-
-abbrev pub decreases-loop-t : goal.decreases-loop-t
-decreases-loop-t l = 32 - l.t
+invariant-loop-t l = l.fit ≡ all_below l.t (allowed l.started l.base l.pending)
