@@ -10,6 +10,7 @@ use crate::Kernel;
 use crate::command::Answer;
 use kernel_checks::{Command, Kind};
 use kernel_line::{POId, TaskID};
+use rules::Refusal;
 
 // The answer to a refused command: its number, who runs, and nobody released.
 pub(crate) fn refused(code: u8, running: TaskID) -> Answer
@@ -40,8 +41,8 @@ pub fn running(k: &Kernel) -> TaskID
     kernel_ready::running(k.started, &k.ready)
 }
 
-// The ops that are lent four tables or more, each as its row of specs/Step; the answer is the released task, 0 for
-// nobody.
+// The ops that are lent four tables or more, each as its row of specs/Step.
+// Kept (promise): the answer is the released task, 0 for nobody, as document 01's answer has it (answered, specs/Step).
 fn create(k: &mut Kernel, t: TaskID, p: u8) -> u8
     ensures { step.Carried k.new result (step.created_of k.old t.0 p) }
 {
@@ -137,14 +138,16 @@ pub fn step_trusting(k: &mut Kernel, c: Command) -> Answer
     ensures { Ends k.new result (step.stepped_of k.old (to_rules c)) }
 {
     let kind = c.kind();
-    let code = kernel_checks::refusal(
+    let checked = kernel_checks::checked(
         &k.base, &k.ready, &k.held, &k.way, k.ceiling, k.waiter, k.clock, k.started, kind, c,
     );
-    if code != 0 {
-        return refused(code, running(k));
+    match checked {
+        Err(refusal) => refused(refusal.number(), running(k)),
+        Ok(()) => {
+            let released = carry(k, kind, c);
+            accepted(running(k), released)
+        }
     }
-    let released = carry(k, kind, c);
-    accepted(running(k), released)
 }
 
 // What the type says of the times, told to the logic, which learns from a read that each number there fits. It costs
@@ -171,7 +174,7 @@ pub fn step(k: &mut Kernel, c: Command) -> Answer
     ensures { Ends k.new result (step_of k.old (to_rules c)) }
 {
     if !sound(k) {
-        return refused(1, TaskID(0));
+        return refused(Refusal::Shape.number(), TaskID(0));
     }
     step_trusting(k, c)
 }

@@ -19,6 +19,7 @@ use rules::Refusal;
 
 // Tables are indexed by the task 0..31 or by the object 0..7. A line ends at its first 0: idle is last in the ready
 // line, and never delayed.
+// Kept (promise): a table for each number, as document 01 asks of the state (view, encode) and the image lays it out.
 #[derive(Clone, Copy, PartialEq, Eq)]
 pub struct Kernel {
     // each task's base priority: 0 for idle, and for a task that is not created

@@ -72,7 +72,10 @@ pub fn step_trusting(
     let tops = *ceiling;
     let waits = *waiter;
     let k = c.kind();
-    let code = kernel_checks::refusal(base, ready, held, way, tops, waits, *clock, *started, k, c);
+    let checked = kernel_checks::checked(
+        base, ready, held, way, tops, waits, *clock, *started, k, c,
+    );
+    let code = rules::code(checked);
     if code != 0 {
         let shown = kernel_ready::running(*started, ready);
         return refused(code, shown);

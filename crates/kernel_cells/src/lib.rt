@@ -36,10 +36,8 @@ pub fn tasks_fit<'a>(
         way.now }
 {
     let mut fit = true;
-    let mut t = 0;
-    while t < 32 {
+    for t in 0..32 {
         fit = task_fits(base[t], place[t], held[t], way[t]) & fit;
-        t += 1;
     }
     fit
 }
@@ -49,10 +47,8 @@ pub fn times_fit<'a>(until: &'a [u64; 32], place: &'a [u8; 32]) -> bool
     ensures { result ≡ cells.times_fit until.now place.now }
 {
     let mut fit = true;
-    let mut t = 0;
-    while t < 32 {
+    for t in 0..32 {
         fit = ((until[t] == 0) | (place[t] == DELAYED)) & fit;
-        t += 1;
     }
     fit
 }

@@ -1,5 +1,5 @@
-// A command: its kind, what Range asks of its operands, and the number of the first check that refuses it. What the
-// checks look at is lent to be read, or goes by value, and every command gets a number, whatever the tables hold.
+// A command: its kind, what Range asks of its operands, and the first check that refuses it. What the checks look
+// at is lent to be read, or goes by value, and every command gets an answer, whatever the tables hold.
 #![tactic(auto)]
 
 ghost use Rattle.std.specs.Prelude.{◌≡◌, cond};
@@ -12,7 +12,7 @@ use rules::{FOR_ENTRY, FOR_OPEN};
 
 mod refusals;
 
-pub use refusals::refusal;
+pub use refusals::checked;
 
 // The tasks, the objects and the priorities run to these.
 pub const LAST_TASK: u8 = 31;

@@ -34,8 +34,11 @@ fn close(
 fn waiting(waiter: &[u8; 8], o: POId, serves: bool) -> u8
     ensures { result ≡ waits_in waiter.now o.0 serves }
 {
-    let w = *waiter;
-    numbers::choose(serves, kernel_line::of_object(w, o), 0)
+    if serves {
+        kernel_line::of_object(*waiter, o)
+    } else {
+        0
+    }
 }
 
 // 8 and 11, where t waits and the barrier is open: it goes to the tail of its base

@@ -8,11 +8,6 @@ ghost use Rattle.kernel_line.specs.Tables.{pop};
 pub fn drop_front(line: &mut [u8; 32])
     ensures { line.new ≡ pop line.old }
 {
-    let cells: &mut [u8] = line;
-    let mut i = 0;
-    while i < 31 {
-        cells[i] = cells[i + 1];
-        i += 1;
-    }
-    cells[31] = 0;
+    line.copy_within(1.., 0);
+    line[31] = 0;
 }

@@ -13,26 +13,20 @@ const OBJECT_COUNT: u8 = 8;
 pub fn holders_fit<'a>(base: &'a [u8; 32], held: &'a [u8; 32], ceiling: [u8; 8]) -> bool
     ensures { result ≡ cells.holders_fit ceiling (replicate 8 0) base.now held.now }
 {
-    let bases: &[u8] = base;
-    let hands: &[u8] = held;
     let mut taken = [0u8; 8];
-    let mut t = 0;
-    while t < 32 {
-        let o = hands[t];
+    for (t, &o) in held.iter().enumerate() {
         if o == 0 {
-            t += 1;
             continue;
         }
         if OBJECT_COUNT <= o {
             return false;
         }
-        let j = o as usize;
-        let free = taken[j] == 0;
-        if !(free & admits(ceiling[j], bases[t])) {
+        let i = usize::from(o);
+        let free = taken[i] == 0;
+        if !(free & admits(ceiling[i], base[t])) {
             return false;
         }
-        taken[j] = 1;
-        t += 1;
+        taken[i] = 1;
     }
     true
 }

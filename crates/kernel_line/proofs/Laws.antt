@@ -1,17 +1,17 @@
 -- Laws of the definitions on tables: what one turn of a loop over a table does to each, by the entry that the turn looks at.
 -- A loop's invariant says that the whole is what was gathered so far with the same of the rest, `drop i l`. Assumes nothing.
-use Prim.Native.Nat.{ℕ, suc, ◌+◌, ◌-◌, ◌≤◌, ◌<◌}
+use Prim.Native.Nat.{ℕ, zero, suc, ◌+◌, ◌-◌, ◌≤◌, ◌<◌}
 use native.Mathlib.Numerals.{add-one}
-use native.Mathlib.Nat.{add_comm}
 use native.Mathlib.Omega.{arith}
 use mathlib.Core.Path.{◌≡◌, refl, sym, ap, ◌∙◌}
 use mathlib.Core.Bool.{Bool, true, false, cond, ◌&&◌, and-true, and_assoc}
 use mathlib.Core.List.{List, [], ◌∷◌, ◌++◌, append-nil}
 use lib.Dec.{eqb}
-use lib.ListN.{length, take, drop, set, drop_of_length-le, length-drop, length-set, get_or-eq_default}
-use lib.Seq.{drop-cons, drop-drop, drop-set-lt, take-suc-set, take-set-le, take-take, take_all, take-suc, set_out, set_split, get_or-drop, get_or-take}
-use lib.Seq.{get_or-set_same}
-use borrow.Author.Tests.{eq-eqb, ne_eqb}
+use Rattle.std.specs.List.{count_by, copy_within}
+use Rattle.std.proofs.lemmas.List.Recursion.{is_count_by}
+use Rattle.std.proofs.Common.{length-take-le}
+use lib.ListN.{length, length-append, take, drop, set, drop_of_length-le, length-drop, get_or-eq_default}
+use lib.Seq.{drop-cons, take-take, take_all, paste, take-paste, length-paste, take-append-le, drop-append_seam, set_out, set_split}
 use Rattle.rules.specs.Line.{at, count, one_if, every}
 use Rattle.kernel_line.specs.Tables.{shift, place, lead, insert, pop}
 
@@ -36,44 +36,42 @@ module _ (stop : ℕ → Bool) (l : List ℕ) (i : ℕ) where
   unfolding lead
   lead_done h = rw (drop_of_length-le l h) (omega arith)
 
--- a loop that moves the entries back, the last one first: up to i the line is as it was, and behind i stands the rest moved back behind the entry at i
-pub back_begin : (l : List ℕ) (x : ℕ) → length l ≡ 32 → drop 32 l ≡ shift x (drop 32 l)
+-- moved back: t in front, and each entry but the last one place further back
+shifted : (n t : ℕ) (l : List ℕ) → length l ≡ suc n → shift t l ≡ t ∷ take n l
 unfolding shift
-back_begin l x n = rw (drop_of_length-le l (let h : length l ≤ 32 = omega arith in h))
+shifted n t [] e = cc
+shifted zero t (x ∷ []) e = refl
+shifted zero t (x ∷ (y ∷ l)) e = cc
+shifted (suc n) t (x ∷ l) e = ap (λ (m : List ℕ). t ∷ m) (shifted n x l (let h : length l ≡ suc n = omega arith in h))
 
-module _ (l out : List ℕ) (i : ℕ) (n : i < length l) (m : i < length out) (kept : take (i + 1) out ≡ take (i + 1) l)
-    (e : drop (i + 1) out ≡ shift (at l i) (drop (i + 1) l)) where
-  front_kept : take i out ≡ take i l
-  front_kept = sym (take-take i (i + 1) out (omega arith)) ∙ ap (take i) kept ∙ take-take i (i + 1) l (omega arith)
+-- n entries s, pasted behind the place i up to the end: what stands before the place, and behind it
+module _ (l s : List ℕ) (i n : ℕ) (h : i < length l) where
+  kept_at : length (take (i + 1) l) ≡ i + 1
+  kept_at = length-take-le (i + 1) l (omega arith)
 
-  rest : drop (suc i) out ≡ shift (at l i) (drop (suc i) l)
-  rest = rw (← add-one i) e
+  pasted_front : take i (paste l (i + 1) s n) ≡ take i l
+  pasted_front =
+      let k : length (take (i + 1) l) ≡ i + 1 = kept_at in
+      let most : i ≤ length (take (i + 1) l ++ take n s) = simp length-append (omega arith) in
+      take-append-le i (take (i + 1) l ++ take n s) (drop (i + 1 + n) l) most ∙ take-append-le i (take (i + 1) l) (take n s) (omega arith)
+      ∙ take-take i (i + 1) l (omega arith)
 
-  pub back_kept : 1 ≤ i → take (i - 1 + 1) (set out i (at out (i - 1))) ≡ take (i - 1 + 1) l
-  back_kept h =
-      let same : i - 1 + 1 ≡ i = omega arith in
-      rw same (take-set-le i out i (at out (i - 1)) (omega arith) ∙ front_kept)
+  pasted_back : i + 1 + n ≡ length l → drop (suc i) (paste l (i + 1) s n) ≡ take n s
+  pasted_back e =
+      let none : drop (i + 1 + n) l ≡ [] = drop_of_length-le l (omega arith) in
+      rw (← add-one i, none, append-nil) (rw kept_at at (drop-append_seam (take (i + 1) l) (take n s)))
 
-  pub back_moved : 1 ≤ i → drop (i - 1 + 1) (set out i (at out (i - 1))) ≡ shift (at l (i - 1)) (drop (i - 1 + 1) l)
-  unfolding shift
-  back_moved h =
-      let same : i - 1 + 1 ≡ i = omega arith in
-      let read : at out (i - 1) ≡ at l (i - 1) = sym (get_or-take (i + 1) out (i - 1) 0 (omega arith)) ∙ ap (λ (x : List ℕ). at x (i - 1)) kept
-      ∙ get_or-take (i + 1) l (i - 1) 0 (omega arith) in
-      let long : i < length (set out i (at out (i - 1))) = simp length-set m in
-      rw (
-        same,
-        drop-cons (set out i (at out (i - 1))) i 0 long,
-        get_or-set_same out i (at out (i - 1)) 0 m,
-        drop-set-lt (suc i) out i (at out (i - 1)) (omega arith),
-        rest,
-        read,
-        drop-cons l i 0 n,
-      )
-
-  pub back_done : (t : ℕ) → set out i t ≡ insert i t l
-  unfolding insert shift
-  back_done t = set_split out i t m ∙ rw (front_kept, rest, drop-cons l i 0 n)
+-- a place behind which the entries were moved back, but the last one, and then given to t
+pub placed : (l : List ℕ) (i t : ℕ) → length l ≡ 32 → i < 32 → set (copy_within l i 31 (i + 1)) i t ≡ insert i t l
+unfolding insert
+placed l i t e h =
+    let n : i + 1 + (31 - i) ≡ length l = omega arith in
+    let out = copy_within l i 31 (i + 1) in
+    let long : length out ≡ length l = length-paste l (i + 1) (drop i l) (31 - i) (omega arith) (simp length-drop (omega arith)) in
+    let front : take i out ≡ take i l = pasted_front l (drop i l) i (31 - i) (omega arith) in
+    let back : drop (suc i) out ≡ take (31 - i) (drop i l) = pasted_back l (drop i l) i (31 - i) (omega arith) n in
+    let rest : length (drop i l) ≡ suc (31 - i) = simp length-drop (omega arith) in
+    set_split out i t (omega arith) ∙ rw (front, back, shifted (31 - i) t (drop i l) rest)
 
 -- a place past the end
 pub insert_out : (l : List ℕ) (i t : ℕ) → length l ≡ 32 → 32 ≤ i → l ≡ insert i t l
@@ -94,50 +92,21 @@ unfolding place lead insert shift
 place_lead stop t [] = refl
 place_lead stop t (x ∷ l) = place_by stop t x l (stop x) (place_lead stop t l)
 
--- a loop that moves the entries forward
-pop_step : (l out : List ℕ) (i : ℕ) → i + 1 < length l → i < length out → take i out ≡ take i (drop 1 l)
-    → take (i + 1) (set out i (at l (i + 1))) ≡ take (i + 1) (drop 1 l)
-pop_step l out i h k e =
-    let in_rest : i < length (drop 1 l) = simp length-drop (omega arith) in
-    let read : at (drop 1 l) i ≡ at l (i + 1) = get_or-drop 1 l i 0 ∙ ap (λ (m : ℕ). at l m) (add_comm 1 i) in
-    rw (← read, add-one, take-suc-set out i (at (drop 1 l) i) k, take-suc (drop 1 l) i 0 in_rest, e)
-
--- what is read one place further on is still the line's
-module _ (l out : List ℕ) (i : ℕ) (n : i + 1 < length l) (m : i < length out) (kept : drop i out ≡ drop i l) where
-  pub moved_on : take i out ≡ take i (drop 1 l) → take (i + 1) (set out i (at out (i + 1))) ≡ take (i + 1) (drop 1 l)
-  moved_on e =
-      let same : at out (i + 1) ≡ at l (i + 1) = sym (get_or-drop i out 1 0) ∙ ap (λ (x : List ℕ). at x 1) kept ∙ get_or-drop i l 1 0 in
-      rw same (pop_step l out i n m e)
-
-  pub rest_kept : drop (i + 1) (set out i (at out (i + 1))) ≡ drop (i + 1) l
-  rest_kept = drop-set-lt (i + 1) out i (at out (i + 1)) (omega arith) ∙ sym (drop-drop 1 i out) ∙ ap (drop 1) kept ∙ drop-drop 1 i l
-
+-- the entries moved forward, and the last place freed
 pop_all : (l : List ℕ) → 0 < length l → pop l ≡ drop 1 l ++ (0 ∷ [])
 unfolding pop
 pop_all [] h = let z : ⊥ = omega arith in absurd z
 pop_all (x ∷ l) h = refl
 
-pub pop_done : (l out : List ℕ) → length l ≡ 32 → length out ≡ 32 → take 31 out ≡ take 31 (drop 1 l) → set out 31 0 ≡ pop l
-pop_done l out n m e =
+pub front_off : (l : List ℕ) → length l ≡ 32 → set (copy_within l 1 32 0) 31 0 ≡ pop l
+front_off l e =
     let some : 0 < length l = omega arith in
-    let fits : 31 < length out = omega arith in
+    let rest : length (drop 1 l) ≡ 31 = simp length-drop (omega arith) in
+    let out = copy_within l 1 32 0 in
+    let long : length out ≡ 32 = length-paste l 0 (drop 1 l) 31 (omega arith) (omega arith) ∙ e in
     let past : length out ≤ 32 = omega arith in
-    let rest : length (drop 1 l) ≤ 31 = simp length-drop (omega arith) in
-    set_split out 31 0 fits ∙ rw (drop_of_length-le out past, e, take_all 31 (drop 1 l) rest, pop_all l some)
-
--- a loop that counts
-module _ (t : ℕ) (l : List ℕ) (i n : ℕ) (h : i < length l) (inv : count t l ≡ n + count t (drop i l)) where
-  count_turn : count t l ≡ n + (one_if (eqb t (at l i)) + count t (drop (i + 1) l))
-  count_turn = inv ∙ rw (add-one, drop-cons l i 0 h)
-
-  pub count_same : t ≡ at l i → count t l ≡ (n + 1) + count t (drop (i + 1) l)
-  count_same e = count_turn ∙ rw (eq-eqb t (at l i) e) (omega arith)
-
-  pub count_other : (t ≡ at l i → ⊥) → count t l ≡ n + count t (drop (i + 1) l)
-  count_other e = count_turn ∙ rw (ne_eqb t (at l i) e) (omega arith)
-
-pub count_done : (t : ℕ) (l : List ℕ) (i n : ℕ) → length l ≤ i → count t l ≡ n + count t (drop i l) → n ≡ count t l
-count_done t l i n h inv = sym (inv ∙ rw (drop_of_length-le l h) (omega arith))
+    let moved : take 31 out ≡ take 31 (drop 1 l) = take-paste l 0 (drop 1 l) 31 (omega arith) (omega arith) in
+    set_split out 31 0 (omega arith) ∙ rw (drop_of_length-le out past, moved, take_all 31 (drop 1 l) (omega arith), pop_all l some)
 
 -- a loop that gathers a test of each entry
 module _ (f : ℕ → Bool) (l : List ℕ) (i : ℕ) (b : Bool) where
@@ -146,3 +115,11 @@ module _ (f : ℕ → Bool) (l : List ℕ) (i : ℕ) (b : Bool) where
 
   pub every_done : length l ≤ i → b && every f (drop i l) ≡ b
   every_done h = rw (drop_of_length-le l h) (and-true b)
+
+-- a count, as the library has it
+pub counted : (t : ℕ) (l : List ℕ) → count_by (eqb t) l ≡ count t l
+counted t l = sym (is_count_by (count t) (eqb t) refl (λ x xs. turn (eqb t x) (count t xs)) l)
+  where
+    turn : (b : Bool) (n : ℕ) → one_if b + n ≡ cond b (1 + n) n
+    turn true n = refl
+    turn false n = omega arith

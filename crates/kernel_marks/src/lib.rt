@@ -4,30 +4,30 @@
 
 ghost use Rattle.std.specs.Prelude.{◌≡◌, leb};
 ghost use Rattle.kernel_line.specs.Tables.{no_task};
-ghost use Rattle.kernel_marks.specs.Marks.{marks};
+ghost use Rattle.kernel_marks.specs.Marks.{met, marks};
 
-use numbers::choose;
+// A task's mark, where the task is met once more: that of the line, or 9 where it stood somewhere before.
+fn met(mark: u8, seen: u8) -> u8
+    ensures { result ≡ met mark seen }
+{
+    if seen == 0 { mark } else { 9 }
+}
 
 // Where each task stands: the mark of the line or of the objects, on top of what was marked before; 9 for a task that
 // stands twice.
 pub fn mark_line(line: &[u8; 32], mark: u8, seen: [u8; 32]) -> [u8; 32]
     ensures { result ≡ marks no_task mark line.now seen }
 {
-    let cells: &[u8] = line;
     let mut out = seen;
-    let mut i = 0;
-    while i < 32 {
-        let x = cells[i];
+    for &x in line {
         if x == 0 {
             return out;
         }
         if 32 <= x {
             return out;
         }
-        let j = x as usize;
-        let n = choose(out[j] == 0, mark, 9);
-        out[j] = n;
-        i += 1;
+        let i = usize::from(x);
+        out[i] = met(mark, out[i]);
     }
     out
 }
@@ -36,16 +36,12 @@ pub fn mark_waiting(waiter: [u8; 8], mark: u8, seen: [u8; 32]) -> [u8; 32]
     ensures { result ≡ marks (leb 32) mark waiter seen }
 {
     let mut out = seen;
-    let mut i = 0;
-    while i < 8 {
-        let x = waiter[i];
+    for &x in waiter.iter() {
         if 32 <= x {
             return out;
         }
-        let j = x as usize;
-        let n = choose(x == 0, 0, choose(out[j] == 0, mark, 9));
-        out[j] = n;
-        i += 1;
+        let i = usize::from(x);
+        out[i] = if x == 0 { 0 } else { met(mark, out[i]) };
     }
     out
 }

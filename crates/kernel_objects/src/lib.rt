@@ -25,12 +25,10 @@ pub fn objects_fit(base: &[u8; 32], ceiling: [u8; 8], waiter: [u8; 8]) -> bool
     ensures { result ≡ cells.objects_fit base.now ceiling waiter }
 {
     let mut fit = true;
-    let mut o = 0u8;
-    while o < 8 {
-        let i = o as usize;
+    for o in 0..8 {
+        let i = usize::from(o);
         let w = waiter[i];
         fit = object_fits(o, ceiling[i], w, kernel_line::of_task(base, TaskID(w))) & fit;
-        o += 1;
     }
     fit
 }

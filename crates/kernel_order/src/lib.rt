@@ -7,19 +7,15 @@ ghost use Rattle.std.specs.Prelude.{◌≡◌};
 ghost use Rattle.kernel_line.specs.Tables.{zeros};
 ghost use Rattle.kernel_order.specs.Order.{ended, falls, rises};
 
-use kernel_line::{POId, of_object};
-use numbers::choose;
+use kernel_line::{TaskID, level};
 
 // Behind a free place all are free. No exit before the end: so the compiler tests sixteen places at a time.
 pub fn is_ended(line: &[u8; 32]) -> bool
     ensures { result ≡ ended line.now }
 {
-    let cells: &[u8] = line;
     let mut ends = true;
-    let mut i = 0;
-    while i < 31 {
-        ends = ends & (!(cells[i] == 0) | (cells[i + 1] == 0));
-        i += 1;
+    for i in 0..31 {
+        ends &= (line[i] != 0) | (line[i + 1] == 0);
     }
     ends
 }
@@ -30,10 +26,8 @@ pub fn is_free(cells: &[u8]) -> bool
     ensures { result ≡ zeros cells.now }
 {
     let mut free = true;
-    let mut i: usize = 0;
-    while i < cells.len() {
-        free = free & (cells[i] == 0);
-        i += 1;
+    for x in cells {
+        free &= *x == 0;
     }
     free
 }
@@ -47,26 +41,19 @@ pub fn is_falling<'a>(
 ) -> bool
     ensures { result ≡ falls base.now ceiling held.now 15 line.now }
 {
-    let cells: &[u8] = line;
-    let mut last = 15u8;
-    let mut i = 0;
-    while i < 32 {
-        let x = cells[i];
+    let mut last = 15;
+    for &x in line {
         if x == 0 {
             return true;
         }
         if 32 <= x {
             return false;
         }
-        let j = x as usize;
-        let o = held[j];
-        let top = of_object(ceiling, POId(o));
-        let level = choose(o == 0, base[j], top);
+        let level = level(base, ceiling, held, TaskID(x));
         if last < level {
             return false;
         }
         last = level;
-        i += 1;
     }
     true
 }
@@ -75,24 +62,19 @@ pub fn is_falling<'a>(
 pub fn is_rising<'a>(line: &'a [u8; 32], until: &'a [u64; 32]) -> bool
     ensures { result ≡ rises until.now 0 line.now }
 {
-    let cells: &[u8] = line;
-    let mut last = 0u64;
-    let mut i = 0;
-    while i < 32 {
-        let x = cells[i];
+    let mut last = 0;
+    for &x in line {
         if x == 0 {
             return true;
         }
         if 32 <= x {
             return false;
         }
-        let j = x as usize;
-        let time = until[j];
+        let time = until[usize::from(x)];
         if time < last {
             return false;
         }
         last = time;
-        i += 1;
     }
     true
 }

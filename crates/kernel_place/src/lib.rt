@@ -6,41 +6,32 @@ ghost use Rattle.kernel_line.specs.Tables.{lead, insert, place, later};
 
 use kernel_line::TaskID;
 
+// Whether an entry is a place for the time v: one with a time after v, or a free one.
+fn is_later(until: &[u64; 32], v: u64, x: u8) -> bool
+    ensures { result ≡ later until.now v x }
+{
+    x == 0 || 32 <= x || v < until[usize::from(x)]
+}
+
 // How many stand before the first with a time after v.
 pub fn front_time(line: &[u8; 32], until: &[u64; 32], v: u64) -> usize
     ensures { result ≡ lead (later until.now v) line.now }
 {
-    let cells: &[u8] = line;
-    let mut i = 0;
-    while i < 32 {
-        let x = cells[i];
-        if x == 0 {
+    for (i, &x) in line.iter().enumerate() {
+        if is_later(until, v, x) {
             return i;
         }
-        if 32 <= x {
-            return i;
-        }
-        let j = x as usize;
-        if v < until[j] {
-            return i;
-        }
-        i += 1;
     }
-    i
+    32
 }
 
-// t at a place of the line; what stood there and behind it moves back, the last entry first.
+// t at a place of the line; what stood there and behind it moves back.
 pub fn put_at(line: &mut [u8; 32], at: usize, t: TaskID)
     ensures { line.new ≡ insert at t.0 line.old }
 {
-    let cells: &mut [u8] = line;
     if at < 32 {
-        let mut i = 31;
-        while at < i {
-            cells[i] = cells[i - 1];
-            i -= 1;
-        }
-        cells[at] = t.0;
+        line.copy_within(at..31, at + 1);
+        line[at] = t.0;
     }
 }
 

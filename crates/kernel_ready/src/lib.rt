@@ -7,22 +7,20 @@ ghost use Rattle.std.specs.Prelude.{◌≡◌};
 ghost use Rattle.kernel_line.specs.Tables.{lead};
 ghost use Rattle.kernel_ready.specs.Ready.{runner_in, running_in, popped, lower, tailed, headed, to_tail, task};
 
-use kernel_line::{POId, TaskID};
+use kernel_line::TaskID;
 
 // Who is in front: 0 for idle.
 pub fn runner(ready: &[u8; 32]) -> TaskID
     ensures { result ≡ task (runner_in ready.now) }
 {
-    let front = ready[0];
-    TaskID(front)
+    TaskID(ready[0])
 }
 
 // Who is shown as running: the front, 0 before Start.
 pub fn running(started: bool, ready: &[u8; 32]) -> TaskID
     ensures { result ≡ task (running_in started ready.now) }
 {
-    let front = ready[0];
-    TaskID(numbers::choose(started, front, 0))
+    if started { runner(ready) } else { TaskID(0) }
 }
 
 // The front is taken off.
@@ -32,26 +30,23 @@ pub fn take_front(ready: &mut [u8; 32])
     kernel_front::drop_front(ready);
 }
 
+// Whether an entry is a place for the priority p: a task with an active priority below it, or what is no task.
+fn is_lower(base: &[u8; 32], ceiling: [u8; 8], held: &[u8; 32], p: u8, x: u8) -> bool
+    ensures { result ≡ lower base.now ceiling held.now p x }
+{
+    32 <= x || kernel_line::level(base, ceiling, held, TaskID(x)) < p
+}
+
 // How many stand before the first with an active priority below p.
 fn front_level(ready: &[u8; 32], base: &[u8; 32], ceiling: [u8; 8], held: &[u8; 32], p: u8) -> usize
     ensures { result ≡ lead (lower base.now ceiling held.now p) ready.now }
 {
-    let cells: &[u8] = ready;
-    let mut i = 0;
-    while i < 32 {
-        let x = cells[i];
-        if 32 <= x {
+    for (i, &x) in ready.iter().enumerate() {
+        if is_lower(base, ceiling, held, p, x) {
             return i;
         }
-        let j = x as usize;
-        let o = held[j];
-        let top = kernel_line::of_object(ceiling, POId(o));
-        if numbers::choose(o == 0, base[j], top) < p {
-            return i;
-        }
-        i += 1;
     }
-    i
+    32
 }
 
 // t at the tail of p.
@@ -82,8 +77,7 @@ pub fn put_head(
     ensures { ready.new ≡
         headed base.now ceiling held.now p t.0 ready.old }
 {
-    let above = kernel_line::one_more(p);
-    put_tail(ready, base, ceiling, held, above, t);
+    put_tail(ready, base, ceiling, held, p.saturating_add(1), t);
 }
 
 // t at the tail of its base.

@@ -1,12 +1,11 @@
 -- The kernel's step, and what its answer does to the pending exceptions, are together the rules' step of the whole state. Assumes nothing.
 use Prim.Native.Nat.{ℕ}
 use native.Mathlib.Omega.{arith}
-use mathlib.Core.Path.{◌≡◌, refl, sym, ap}
+use mathlib.Core.Path.{◌≡◌, refl, sym}
 use mathlib.Core.Bool.{Bool, true, false, ◌&&◌, and-false}
 use lib.Dec.{eqb, ltb}
 use borrow.Author.Tests.{eqb-true, eqb-false, lt-ltb}
 use Rattle.rules.specs.Machine.{Machine, Command, runner}
-use Rattle.rules.specs.declared.Whose.{Whose}
 use Rattle.rules.specs.Kinds.{kind}
 use Rattle.rules.specs.Run.{accepts, released}
 use Rattle.rules.specs.Run as R
@@ -21,14 +20,9 @@ use Rattle.kernel.specs.View as K
 use Rattle.kernel.specs.Public as P
 use Rattle.kernel_ready.specs.Ready.{runner_in}
 use Rattle.kernel_ready.proofs.Laws.{front_idle}
-use Rattle.kernel.specs.declared.command.Answer as tables
-use Rattle.kernel_line.specs.declared.TaskID.{TaskID}
-use Rattle.kernel_ready.specs.Ready.{task}
 use Rattle.kernel_state.specs.declared.Stepped.{Stepped}
-use Rattle.kernel_state.specs.declared.Answer.{Answer}
-use Rattle.kernel_state.specs.declared.Settled.{Settled}
 use Rattle.kernel_state.specs.Settle.{settled}
-use Rattle.kernel_state.specs.Public.{both, view, encode, is_sound, answer_of, report, ends, shape, step_of, left_of}
+use Rattle.kernel_state.specs.Public.{both, view, encode, is_sound, report, shape, step_of, left_of}
 
 -- The two steps together.
 abbrev pub together : Kernel → ℕ → Command → Stepped
@@ -58,7 +52,7 @@ sound_parts k p = regroup (tidy k) (S.sound (K.view k)) (pending_sound k.started
     regroup false b c = refl
 
 -- who ran, by the table and by the machine
-ran : (k : Kernel) → runner_in k.ready ≡ runner (K.view k)
+pub ran : (k : Kernel) → runner_in k.ready ≡ runner (K.view k)
 unfolding K.view
 ran k = sym (front_idle k.ready)
 
@@ -82,16 +76,6 @@ settles k p c h = go (P.is_sound k) (accepts (K.view k) c) refl refl
     go true true e a = rw (sound_parts k p, e, h, a, ran k, owner_few m (stands k e) c)
     go true false e a = rw (sound_parts k p, e, h, a, unmoved m c a)
     go false ok e a = rw (sound_parts k p, e)
-
--- The same from what the parts of the code answer: the kernel's step, whose it is, who ran, what is settled, and the answer that is made of it.
-pub made_of : (k : Kernel) (p : ℕ) (c : Command) → pending_sound k.started k.base p ≡ true
-    → (behind : Kernel) (said : tables.Answer) (w : Whose) (closer : TaskID) (s : Settled) (a : Answer)
-    → behind ≡ (P.step_of k c).next → said ≡ (P.step_of k c).answer → w ≡ whose_of (kind c) → closer ≡ task (runner_in k.ready)
-    → s ≡ settled p w closer.0 said → a ≡ answer_of said.code said.running.0 said.released.0 s.exception
-    → ends (both behind s.pending) a (step_of (both k p) c)
-made_of k p c h behind said w closer s a next_is said-is whose-is ran-is settled_is answer_is =
-    let z = settles k p c h in
-    rw (answer_is, settled_is, next_is, said-is, whose-is, ran-is) (ap (λ r. r.next) z, ap (λ r. r.answer) z)
 
 -- What is pending and not sound: Shape.
 pub step_unsound : (k : Kernel) (p : ℕ) (c : Command) → pending_sound k.started k.base p ≡ false → report (both k p) shape ≡ step_of (both k p) c

@@ -5,6 +5,7 @@ ghost use Rattle.kernel_state.specs.Public.{ends, answer_of, step_of};
 
 use crate::{Answer, State, pending_sound, settle, whose};
 use kernel::{Command, TaskID};
+use rules::Refusal;
 
 // An answer of the kernel's step, with whether an exception is shown.
 fn with_exception(a: kernel::Answer, exception: bool) -> Answer
@@ -26,7 +27,7 @@ pub fn step(s: &mut State, c: Command) -> Answer
 {
     if !pending_sound(&s.kernel.base, s.kernel.started, s.pending) {
         return Answer {
-            code: 1,
+            code: Refusal::Shape.number(),
             running: TaskID(0),
             released: TaskID(0),
             exception: false,

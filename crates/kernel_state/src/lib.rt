@@ -11,6 +11,7 @@ ghost use Rattle.kernel_state.specs.Public.{encode, is_sound, step_of, left_of};
 
 use kernel::{Command, Kernel, Left, TaskID};
 use kernel_checks::{Kind, Whose};
+use rules::Refusal;
 
 mod bits;
 pub mod in_place;
@@ -58,7 +59,8 @@ pub fn whose(c: Command) -> Whose
     }
 }
 
-// Whose, as a task number: by who ran before the command, and whom it released. 0 is nobody.
+// Whose, as a task number: by who ran before the command, and whom it released.
+// Kept (promise): 0 is nobody, as document 01 numbers the tasks of an answer (task_of).
 fn task_of(w: Whose, closer: u8, freed: u8) -> u8
     ensures { result ≡ task_of w closer freed }
 {
@@ -123,7 +125,10 @@ impl State {
         ensures { result ≡ left_of self t.0 }
     {
         if !pending_sound(&self.kernel.base, self.kernel.started, self.pending) {
-            return Left { code: 1, left: 0 };
+            return Left {
+                code: Refusal::Shape.number(),
+                left: 0,
+            };
         }
         self.kernel.wakes_left(t)
     }

@@ -13,8 +13,12 @@ use kernel_line::TaskID;
 fn due(delayed: &[u8; 32], until: &[u64; 32], clock: u64) -> u8
     ensures { result ≡ due_in delayed.now until.now clock }
 {
-    let t = delayed[0];
-    numbers::choose(kernel_line::time_of(until, TaskID(t)) <= clock, t, 0)
+    let t = TaskID(delayed[0]);
+    if kernel_line::time_of(until, t) <= clock {
+        t.0
+    } else {
+        0
+    }
 }
 
 // 5, where the first delay entry is due: it goes to the tail of its base

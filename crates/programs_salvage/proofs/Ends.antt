@@ -12,23 +12,12 @@ use lib.Seq.{sets, length-sets, length-take-le}
 use Rattle.decimal.specs.Buffer.{contents_after, place_after, InFront}
 use Rattle.programs_flow.specs.declared.Went.{Went}
 use Rattle.programs_flow.specs.Flow.{where_done}
-use Rattle.programs_salvage.specs.Work.{AllTaken, Salvaged, NamedOrFailed, DoneRefusedFailed}
+use Rattle.programs_salvage.specs.Work.{AllTaken, Salvaged}
 
 pub still : (b : Bool) (w r : Went) → r ≡ where_done b w → Salvaged w → Salvaged r
 unfolding where_done
 still true w r e s = subst Salvaged (sym e) s
 still false w r e s = let k = ap (λ (x : Went). x.kind) e in inr (inl (omega (arith, k)))
-
--- a status that is 3, or 2
-pub failed_so : {r : ℕ} → r ≡ 3 → DoneRefusedFailed r
-failed_so e = inr (inr e)
-
-pub refused_so : {r : ℕ} → r ≡ 2 → DoneRefusedFailed r
-refused_so e = inr (inl e)
-
-pub named_so : (w : Went) {r : ℕ} → NamedOrFailed w r → DoneRefusedFailed r
-named_so w (inl (e, a)) = inl e
-named_so w (inr e) = failed_so e
 
 pub taken : (b : Bool) (w : Went) → b ≡ eqb w.kind 1 → b ≡ true → Salvaged w → AllTaken w
 taken b w e t (inl a) = a

@@ -196,7 +196,7 @@ module _ (s : Stand) (buf buf' buf'' out text : List ℕ) (was came went : Went)
 
     one_turn : Turned start (standing (record { torn = fed.torn; held = left; kept = s.kept + fed.kept }) buf'') was went out text
     one_turn =
-        let k = rw bytes at h.1 in
+        let wrote = rw bytes at h.1 in
         let o = rw bytes at h.2 in
         inl (
           piece,
@@ -204,7 +204,7 @@ module _ (s : Stand) (buf buf' buf'' out text : List ℕ) (was came went : Went)
             omega (arith, some, size),
             size ∙ e ∙ sym o.1,
             same_between _ _ _ _ _ _ answer.torn moved.0 (ap (λ (x : ℕ). s.kept + x) answer.kept),
-            k,
+            wrote,
             o.0,
             since _ o.2,
           ),

@@ -2,15 +2,13 @@
 use Prim.Native.Nat.{ℕ, ◌≤◌}
 use native.Mathlib.Omega.{arith}
 use mathlib.Core.Path.{◌≡◌, refl, ap, sym, ◌∙◌}
-use mathlib.Core.List.{List, [], ◌∷◌, ◌++◌}
+use mathlib.Core.List.{List, [], ◌∷◌}
 use mathlib.Core.Logic.{inl, inr}
-use borrow.Rule.Slice.PartMut.{put_mid, post_of}
-use lib.ListN.{length, take, drop, length-append}
-use lib.Seq.{length-take-le, take-append-le, take_at, drop_at}
+use lib.ListN.{length, take}
 use Rattle.decimal.specs.Buffer.{place_after, contents_after, InFront}
 use Rattle.decimal.proofs.Stores.{put_in_front}
 use Rattle.programs_flow.specs.declared.Went.{Went}
-use Rattle.programs_flow.specs.Flow.{Came, Took, Wrote}
+use Rattle.programs_flow.specs.Flow.{Took, Wrote}
 use Rattle.programs_flow.specs.Loops.{Put}
 use Rattle.programs_flow.proofs.Rooms.{put_roomy}
 use Rattle.programs_flow.proofs.Turns.{took_text}
@@ -52,17 +50,3 @@ pub one_taken : (x y : Option Stretch) (s : Stretch) (out : List ℕ) (n : ℕ) 
     → Put n out (list_text (s.first ∷ (s.size ∷ []))) → Wrote (length (take n out)) w r → Took (length (list_text (numbers_of y))) w.kind w r
 unfolding cells
 one_taken x y s out n w r e z p q = rw (← e, z) (took_text (list_text (s.first ∷ (s.size ∷ []))) out n w.kind w r p q.1)
-
--- ---- a read behind the held bytes
-
-came_more : (w r : Went) (piece more : List ℕ) → Came w r piece → Came w r (piece ++ more)
-came_more w r piece more ((o, n, b), k, e) =
-    let l = length-append piece more in
-    ((omega (arith, l, o), n ∙ ap length (sym (take-append-le r.count piece more o)), b), k, e)
-
-pub came_behind : (w r : Went) (held k : ℕ) (buf piece : List ℕ) → held ≤ length buf → Came w r piece
-    → Came w r (drop held (put_mid held k buf piece)) × (take held (put_mid held k buf piece) ≡ take held buf)
-came_behind w r held k buf piece o c =
-    let more = post_of held k buf in
-    let n = length-take-le held buf o in
-    (rw (drop_at (take held buf) (piece ++ more) held n) (came_more w r piece more c), take_at (take held buf) (piece ++ more) held n)

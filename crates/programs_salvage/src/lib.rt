@@ -38,178 +38,167 @@ pub struct Stand {
     pub kept: u64,
 }
 
-// A file of this name is made new, open for writing; one that is there is not replaced.
-fn make<R: std::rt::Files<File = File>>(rt: &R, name: &str) -> io::Result<File> {
-    OpenOptions::new()
-        .write(true)
-        .create_new(true)
-        .open(rt, name)
+// What a run goes by: the system, standard error, and the names of the old tape, of the new one and of what is begun of
+// it.
+#[derive(Drop)]
+struct Job<'a, R, E> {
+    rt: &'a R,
+    errors: &'a E,
+    old: &'a str,
+    new: &'a str,
+    part: &'a str,
 }
 
-// What is written is on its device; where something had failed before, it is not asked. The file is closed. (Whether
-// that fails std does not say; the device has all by then.)
-fn made_safe<E: Print>(w: Went, errors: &E, to: File, part: &str) -> Went
-    requires { Salvaged w }
-    ensures { Salvaged result }
-{
-    if !has_ended(w) {
-        return w;
+impl<'a, R: std::rt::Files<File = File>, E: Print + IsTerminal> Job<'a, R, E> {
+    // A file of this name is made new, open for writing; one that is there is not replaced.
+    fn make(&self, name: &str) -> io::Result<File> {
+        OpenOptions::new()
+            .write(true)
+            .create_new(true)
+            .open(self.rt, name)
     }
-    checked(
-        w,
-        errors,
-        to.sync_all(),
-        part.as_bytes(),
-        b" could not be brought to its device",
-    )
-}
 
-// The new tape gets its name.
-fn give_name<R: std::rt::Files<File = File>, E: Print>(
-    w: Went,
-    rt: &R,
-    errors: &E,
-    new: &str,
-    part: &str,
-) -> Went
-    requires { AllTaken w }
-{
-    if let Err(why) = make(rt, new) {
-        return not_written(w, errors, why, new.as_bytes(), b" could not be made");
+    // What is written is on its device; where something had failed before, it is not asked. The file is closed. (Whether
+    // that fails std does not say; the device has all by then.)
+    fn made_safe(&self, w: Went, to: File) -> Went
+        requires { Salvaged w }
+        ensures { Salvaged result }
+    {
+        if !has_ended(w) {
+            return w;
+        }
+        checked(
+            w,
+            self.errors,
+            to.sync_all(),
+            self.part.as_bytes(),
+            b" could not be brought to its device",
+        )
     }
-    let named = checked(
-        w,
-        errors,
-        fs::rename(rt, part, new),
-        part.as_bytes(),
-        b" could not be renamed",
-    );
-    if has_ended(named) {
-        return named;
-    }
-    if let Err(why) = fs::remove_file(rt, new) {
-        told(
-            errors,
-            why,
-            3,
-            new.as_bytes(),
-            b" is empty, and could not be removed",
+
+    // The new tape gets its name.
+    fn give_name(&self, w: Went) -> Went
+        requires { AllTaken w }
+    {
+        if let Err(why) = self.make(self.new) {
+            let new = self.new.as_bytes();
+            return not_written(w, self.errors, why, new, b" could not be made");
+        }
+        let named = checked(
+            w,
+            self.errors,
+            fs::rename(self.rt, self.part, self.new),
+            self.part.as_bytes(),
+            b" could not be renamed",
         );
+        if has_ended(named) {
+            return named;
+        }
+        if let Err(why) = fs::remove_file(self.rt, self.new) {
+            told(
+                self.errors,
+                why,
+                3,
+                self.new.as_bytes(),
+                b" is empty, and could not be removed",
+            );
+        }
+        named
     }
-    named
-}
 
-// How many bytes of a name stand up to its last slash, the slash included.
-fn folder_of(name: &[u8]) -> usize
-    ensures { InFront result name.now }
-{
-    let mut n = name.len();
-    while n > 0 && name[n - 1] != b'/' {
-        n -= 1;
+    // The folder's entry of the new name is brought to its device, where a folder can be opened and synced. That the
+    // tape itself is there was seen to before.
+    fn sync_folder(&self) {
+        let folder = match self.new.rfind('/') {
+            Some(slash) => self.new.get(..=slash).unwrap_or("."),
+            None => ".",
+        };
+        if let Ok(opened) = File::open(self.rt, folder) {
+            let _ = opened.sync_all();
+        }
     }
-    n
-}
 
-// The folder's entry of the new name is brought to its device, where a folder can be opened and synced. That the tape
-// itself is there was seen to before.
-// (A slash is a character of its own, so the name can be cut behind it, and `get` gives what stands up to there.)
-fn sync_folder<R: std::rt::Files<File = File>>(rt: &R, new: &str) {
-    let n = folder_of(new.as_bytes());
-    let folder = if n == 0 {
-        "."
-    } else {
-        new.get(..n).unwrap_or(".")
-    };
-    if let Ok(opened) = File::open(rt, folder) {
-        let _ = opened.sync_all();
-    }
-}
-
-// What was begun is removed. The status.
-fn removed<R: std::rt::Files<File = File>, E: Print>(rt: &R, errors: &E, part: &str) -> u8
-    ensures { result ≡ 3 }
-{
-    match fs::remove_file(rt, part) {
-        Ok(()) => 3,
-        Err(why) => told(errors, why, 3, part.as_bytes(), b" could not be removed"),
-    }
-}
-
-// The new tape gets its name where all was taken, and what was begun is removed where not.
-fn finish<R: std::rt::Files<File = File>, E: Print>(
-    w: Went,
-    rt: &R,
-    errors: &E,
-    new: &str,
-    part: &str,
-) -> u8
-    requires { Salvaged w }
-    ensures { NamedOrFailed w result }
-{
-    if !has_ended(w) {
-        return removed(rt, errors, part);
-    }
-    if !has_ended(give_name(w, rt, errors, new, part)) {
-        return removed(rt, errors, part);
-    }
-    sync_folder(rt, new);
-    0
-}
-
-// Descriptors below 3 are standard input, output and error. Where the new tape has one of them, output or error is
-// closed, and what is said there would stand in the tape.
-fn salvage<R: std::rt::Files<File = File>, W: Write, E: Print + IsTerminal>(
-    rt: &R,
-    output: &mut W,
-    errors: &E,
-    from: File,
-    to: File,
-    old: &str,
-    new: &str,
-    part: &str,
-) -> u8
-    ensures { DoneRefusedFailed result }
-{
-    if to.as_raw_fd() < 3 {
-        drop(to);
-        refused(
-            errors,
-            3,
-            b"salvage wants standard output and standard error, and one of them is closed\n",
-        );
-        return removed(rt, errors, part);
-    }
-    let mut files = Files {
-        old: from,
-        part: to,
-    };
-    let went = pieces::over(&mut files, output, errors, old.as_bytes(), part.as_bytes());
-    let safe = made_safe(went, errors, files.part, part);
-    finish(safe, rt, errors, new, part)
-}
-
-fn from_to<R: std::rt::Files<File = File>, W: Write, E: Print + IsTerminal>(
-    rt: &R,
-    output: &mut W,
-    errors: &E,
-    old: &str,
-    new: &str,
-    part: &str,
-) -> u8
-    ensures { DoneRefusedFailed result }
-{
-    match File::open(rt, old) {
-        Err(why) => told(errors, why, 2, old.as_bytes(), b" could not be opened"),
-        Ok(from) => match make(rt, part) {
+    // What was begun is removed. The status.
+    fn removed(&self) -> u8
+        ensures { result ≡ 3 }
+    {
+        match fs::remove_file(self.rt, self.part) {
+            Ok(()) => 3,
             Err(why) => told(
-                errors,
+                self.errors,
+                why,
+                3,
+                self.part.as_bytes(),
+                b" could not be removed",
+            ),
+        }
+    }
+
+    // The new tape gets its name where all was taken, and what was begun is removed where not.
+    fn finish(&self, w: Went) -> u8
+        requires { Salvaged w }
+        ensures { NamedOrFailed w result }
+    {
+        if !has_ended(w) {
+            return self.removed();
+        }
+        let named = self.give_name(w);
+        if !has_ended(named) {
+            return self.removed();
+        }
+        self.sync_folder();
+        0
+    }
+
+    // Descriptors below 3 are standard input, output and error. Where the new tape has one of them, output or error is
+    // closed, and what is said there would stand in the tape.
+    fn salvage<W: Write>(&self, output: &mut W, from: File, to: File) -> u8
+        ensures { DoneRefusedFailed result }
+    {
+        if to.as_raw_fd() < 3 {
+            drop(to);
+            refused(
+                self.errors,
+                3,
+                b"salvage wants standard output and standard error, and one of them is closed\n",
+            );
+            return self.removed();
+        }
+        let mut files = Files {
+            old: from,
+            part: to,
+        };
+        let went = pieces::over(
+            &mut files,
+            output,
+            self.errors,
+            self.old.as_bytes(),
+            self.part.as_bytes(),
+        );
+        let safe = self.made_safe(went, files.part);
+        self.finish(safe)
+    }
+
+    fn from_to<W: Write>(&self, output: &mut W) -> u8
+        ensures { DoneRefusedFailed result }
+    {
+        let from = match File::open(self.rt, self.old) {
+            Ok(from) => from,
+            Err(why) => {
+                let old = self.old.as_bytes();
+                return told(self.errors, why, 2, old, b" could not be opened");
+            }
+        };
+        match self.make(self.part) {
+            Ok(to) => self.salvage(output, from, to),
+            Err(why) => told(
+                self.errors,
                 why,
                 2,
-                part.as_bytes(),
+                self.part.as_bytes(),
                 b" could not be made (if it is there and no salvage is at work, remove it)",
             ),
-            Ok(to) => salvage(rt, output, errors, from, to, old, new, part),
-        },
+        }
     }
 }
 
@@ -254,7 +243,16 @@ pub fn run<R: std::rt::Files<File = File> + Env, W: Write, E: Print + IsTerminal
         from_utf8(&new[..m]),
         from_utf8(&part[..end]),
     ) {
-        (Ok(old), Ok(new), Ok(part)) => from_to(rt, output, errors, old, new, part),
+        (Ok(old), Ok(new), Ok(part)) => {
+            let job = Job {
+                rt,
+                errors,
+                old,
+                new,
+                part,
+            };
+            job.from_to(output)
+        }
         _ => refused(errors, 2, b"salvage wants two names in UTF-8\n"),
     }
 }

@@ -19,4 +19,5 @@ pub mod Before
 pub mod Release
 pub mod Goes
 pub mod Theorems
+pub mod Codes
 pub mod Single

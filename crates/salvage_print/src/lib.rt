@@ -28,10 +28,11 @@ fn put_stretches(out: &mut [u8], cells: &[u64]) -> usize
     ensures { Written out.old 0 (list_text cells.now) out.new result }
 {
     let mut at = 0;
-    let mut i = 0;
-    while 1 < cells.len() - i {
-        at = put_stretch(out, at, cells[i], cells[i + 1]);
-        i += 2;
+    let mut left = cells;
+    // Kept (rule): `chunks_exact` divides the list's length, and what prints may not.
+    while let [first, size, more @ ..] = left {
+        at = put_stretch(out, at, *first, *size);
+        left = more;
     }
     at
 }

@@ -11,51 +11,36 @@ loop-t-init c = (search rules, refl)
 
 pub loop-t-preserved-then-o-eq0 : goal.loop-t-preserved-then-o-eq0
 loop-t-preserved-then-o-eq0 c =
-    let h = c in
-    let a = h.args in
-    let len : length a.held.now ≡ 32 = search rules in
-    let all : length a.base.now ≡ 32 = search rules in (
-      h.loop-t.invariant.0,
-      h.loop-t.invariant.1 ∙ holders_skip a.ceiling h.loop-t.taken a.base.now a.held.now h.loop-t.t (omega arith) (omega arith) c.if-o-eq0.true,
+    let a = c.args in (
+      c.loop-t.invariant.0,
+      c.loop-t.invariant.1 ∙ holders_skip a.ceiling c.loop-t.taken a.base.now a.held.now c.loop-t.t (omega arith) (omega arith) c.if-o-eq0.true,
     )
 
 pub returns-then-o-ge-OBJECT_COUNT : goal.returns-then-o-ge-OBJECT_COUNT
 returns-then-o-ge-OBJECT_COUNT c =
-    let h = c in
-    let a = h.args in
-    let len : length a.held.now ≡ 32 = search rules in
-    let all : length a.base.now ≡ 32 = search rules in
+    let a = c.args in
     sym
-    (h.loop-t.invariant.1 ∙ holders_out a.ceiling h.loop-t.taken a.base.now a.held.now h.loop-t.t (omega arith) (omega arith) c.if-o-eq0.false
+    (c.loop-t.invariant.1 ∙ holders_out a.ceiling c.loop-t.taken a.base.now a.held.now c.loop-t.t (omega arith) (omega arith) c.if-o-eq0.false
     c.if-o-ge-OBJECT_COUNT.true)
 
 pub returns-then-not-free-admits : goal.returns-then-not-free-admits
 returns-then-not-free-admits c =
-    let h = c in
-    let a = h.args in
-    let len : length a.held.now ≡ 32 = search rules in
-    let all : length a.base.now ≡ 32 = search rules in
+    let a = c.args in
     sym
-    (h.loop-t.invariant.1 ∙ holders_stop a.ceiling h.loop-t.taken a.base.now a.held.now h.loop-t.t (omega arith) (omega arith)
-    c.if-o-eq0.false c.if-o-ge-OBJECT_COUNT.false (rw (← c.admits.ensures) c.if-not-free-admits.true))
+    (c.loop-t.invariant.1 ∙ holders_stop a.ceiling c.loop-t.taken a.base.now a.held.now c.loop-t.t (omega arith) (omega arith)
+    c.if-o-eq0.false c.if-o-ge-OBJECT_COUNT.false (rw (← c.from-i.ensures, ← c.admits.ensures) c.if-not-free-admits.true))
 
 pub loop-t-preserved : goal.loop-t-preserved
 loop-t-preserved c =
-    let h = c in
-    let a = h.args in
-    let len : length a.held.now ≡ 32 = search rules in
-    let all : length a.base.now ≡ 32 = search rules in
-    let now : length h.loop-t.taken ≡ 8 = h.loop-t.invariant.0 in (
+    let a = c.args in
+    let now : length c.loop-t.taken ≡ 8 = c.loop-t.invariant.0 in (
       simp length-set now,
-      h.loop-t.invariant.1 ∙ holders_step a.ceiling h.loop-t.taken a.base.now a.held.now h.loop-t.t (omega arith) (omega arith)
+      rw c.from-i.ensures (c.loop-t.invariant.1 ∙ holders_step a.ceiling c.loop-t.taken a.base.now a.held.now c.loop-t.t (omega arith) (omega arith)
           c.if-o-eq0.false c.if-o-ge-OBJECT_COUNT.false
-          (rw (← c.admits.ensures) c.if-not-free-admits.false),
+          (rw (← c.from-i.ensures, ← c.admits.ensures) c.if-not-free-admits.false)),
     )
 
 pub returns : goal.returns
 returns c =
-    let h = c in
-    let a = h.args in
-    let len : length a.held.now ≡ 32 = search rules in
-    let all : length a.base.now ≡ 32 = search rules in
-    sym (h.loop-t.invariant.1 ∙ holders_done a.ceiling h.loop-t.taken a.base.now a.held.now h.loop-t.t (omega arith))
+    let a = c.args in
+    sym (c.loop-t.invariant.1 ∙ holders_done a.ceiling c.loop-t.taken a.base.now a.held.now c.loop-t.t (omega arith))

@@ -8,21 +8,17 @@ use Rattle.kernel_objects.proofs.objects_fit.Goals as goal
 
 pub loop-o-init : goal.loop-o-init
 unfolding all_below
-loop-o-init c = (omega arith, refl)
+loop-o-init c = refl
 
 pub loop-o-preserved : goal.loop-o-preserved
 loop-o-preserved c =
-    let h = c in
-    let a = h.args in (
-      omega arith,
-      rw (c.object_fits-fit.ensures, c.of_task.ensures) (gather (λ o. object_fits o (at a.ceiling o) (at a.waiter o) (at a.base.now (at a.waiter o)))
-          h.loop-o.o h.loop-o.fit h.loop-o.invariant.1),
-    )
+    let a = c.args in
+    rw (c.object_fits-fit.ensures, c.of_task.ensures, c.from-i.ensures) (gather (λ o. object_fits o (at a.ceiling o) (at a.waiter o) (at a.base.now (at a.waiter o)))
+    c.loop-o.o c.loop-o.fit c.loop-o.invariant)
 
 pub returns : goal.returns
 unfolding objects_fit
 returns c =
-    let h = c in
-    let a = h.args in
-    let end : h.loop-o.o ≡ 8 = omega arith in
-    rw end at h.loop-o.invariant.1
+    let a = c.args in
+    let end : c.loop-o.o ≡ 8 = omega arith in
+    rw end at c.loop-o.invariant

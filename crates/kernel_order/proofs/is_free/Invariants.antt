@@ -1,13 +1,7 @@
--- `kernel_order::is_free` meets its contract. The invariant: all is free just when it is so far and the rest is. Assumes nothing.
-use Prim.Native.Nat.{◌-◌, ◌≤◌}
-use mathlib.Core.Path.{◌≡◌}
-use lib.ListN.{length, drop}
+-- `is_free` meets its contract. The invariant: all is free just when it is so far and the rest is. Assumes nothing.
+use Rattle.std.proofs.Common.{◌≡◌, ◌&&◌, drop}
 use Rattle.kernel_line.specs.Tables.{zeros}
-use mathlib.Core.Bool.{◌&&◌}
 use Rattle.kernel_order.proofs.is_free.Given as goal
 
-abbrev pub invariant-loop-i : goal.invariant-loop-i
-invariant-loop-i l = (l.i ≤ length l.cells) × (zeros l.cells ≡ l.free && zeros (drop l.i l.cells))
-
-abbrev pub decreases-loop-i : goal.decreases-loop-i
-decreases-loop-i l = length l.cells - l.i
+abbrev pub invariant-loop-x : goal.invariant-loop-x
+invariant-loop-x l = zeros l.cells ≡ l.free && zeros (drop l.x-index l.cells)

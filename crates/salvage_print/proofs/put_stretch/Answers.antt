@@ -11,16 +11,11 @@ use Rattle.salvage_print.proofs.put_stretch.Goals as goal
 pub returns : goal.returns
 unfolding stretch_text
 returns c =
-    let end = c in
-    let size = end in
-    let comma = size in
-    let first = comma in
-    let start = first in
-    let a = start in
-    let n = decimal_most a.args.first in
-    let m = decimal_most a.args.size in
-    let w1 = stands 20 a.args.out.now a.args.at (bytes "dropped: first byte ") (omega arith) start.put_text-byte.ensures in
-    let w2 = then_put 20 (decimal a.args.first) w1 (omega arith) first.put_decimal-comma.ensures in
-    let w3 = then_put 9 (bytes ", length ") w2 (simp length-append (omega (arith, n))) comma.put_text-length.ensures in
-    let w4 = then_put 20 (decimal a.args.size) w3 (simp length-append (omega (arith, n))) size.put_decimal-end.ensures in
-    then_put 1 (bytes "\n") w4 (simp length-append (omega (arith, n, m))) end.put_text.ensures
+    let a = c.args in
+    let n = decimal_most a.first in
+    let m = decimal_most a.size in
+    let w1 = stands 20 a.out.now a.at (bytes "dropped: first byte ") (omega arith) c.put_text-byte.ensures in
+    let w2 = then_put 20 (decimal a.first) w1 (omega arith) c.put_decimal-comma.ensures in
+    let w3 = then_put 9 (bytes ", length ") w2 (simp length-append (omega (arith, n))) c.put_text-length.ensures in
+    let w4 = then_put 20 (decimal a.size) w3 (simp length-append (omega (arith, n))) c.put_decimal-end.ensures in
+    then_put 1 (bytes "\n") w4 (simp length-append (omega (arith, n, m))) c.put_text.ensures

@@ -1,19 +1,13 @@
 -- What the check leaves of `put_stretches`.
-use native.Mathlib.Omega.{arith}
 use Rattle.salvage_print.proofs.Behind.{all_left, less_left, none_left}
 use Rattle.salvage_print.proofs.put_stretches.Goals as goal
 
-pub loop-i-init : goal.loop-i-init
-loop-i-init c = all_left _ _
+pub loop-left-init : goal.loop-left-init
+loop-left-init c = all_left _ _
 
-pub loop-i-preserved : goal.loop-i-preserved
-loop-i-preserved c =
-    let lp = c.loop-i in
-    let put = c in
-    let test = put in
-    less_left _ _ lp.out lp.at lp.i lp.invariant _ _ (omega (arith, test.loop-i-test.true)) put.put_stretch-at.ensures
+pub loop-left-preserved : goal.loop-left-preserved
+loop-left-preserved c =
+    let l = c.loop-left in less_left _ _ l.out l.at l.left.now _ _ c.in-len2-up.len_at_least l.invariant c.put_stretch-at.ensures
 
 pub returns : goal.returns
-returns c =
-    let lp = c.loop-i in
-    none_left _ _ lp.out lp.at lp.i lp.invariant (omega (arith, c.loop-i-test.false))
+returns c = let l = c.loop-left in none_left _ _ l.out l.at l.left.now l.invariant c.in_default.len_below

@@ -8,13 +8,11 @@ use Rattle.salvage_print.proofs.put_yes_no.Goals as goal
 pub returns-then-headed : goal.returns-then-headed
 unfolding yes_no
 returns-then-headed c =
-    let a = c in
-    let put = c in
-    rw put.if-headed.true (stands 4 a.args.out.now a.args.at (bytes "yes\n") (omega arith) put.put_text.ensures)
+    let a = c.args in
+    rw c.if-headed.true (stands 4 a.out.now a.at (bytes "yes\n") (omega arith) c.put_text.ensures)
 
 pub returns : goal.returns
 unfolding yes_no
 returns c =
-    let a = c in
-    let put = c in
-    rw put.if-headed.false (stands 3 a.args.out.now a.args.at (bytes "no\n") (omega arith) put.put_text-2.ensures)
+    let a = c.args in
+    rw c.if-headed.false (stands 3 a.out.now a.at (bytes "no\n") (omega arith) c.put_text-2.ensures)

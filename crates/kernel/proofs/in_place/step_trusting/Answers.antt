@@ -1,27 +1,31 @@
--- `step_trusting` is stepped_of on the tables: a refused command ends as Ends says, and an accepted one is carried out. Assumes nothing.
-use mathlib.Core.Path.{◌≡◌, ap, ◌∙◌}
+-- `step_trusting` is stepped_of: a refused command ends as Ends says, and an accepted one is carried out. Assumes nothing.
+use Prim.Native.Nat.{zero}
+use mathlib.Core.Path.{◌≡◌, refl, ap, ◌∙◌}
 use Rattle.rules.specs.Machine.{Command}
 use Rattle.rules.specs.Kinds.{kind}
+use Rattle.rules.specs.Numbers.{number_of}
 use Rattle.kernel_checks.specs.Shown.{refusal_as}
+use Rattle.kernel_checks.proofs.Rows.{some_number}
 use Rattle.kernel.specs.declared.Stepped.{Stepped}
 use Rattle.kernel.specs.Public.{to_rules}
 use Rattle.kernel.proofs.Ends.{shown_of, refused_end, accepted_end}
 use Rattle.kernel.proofs.in_place.step_trusting.Goals as goal
 
--- (k: the lent tables; asked: the command; found: the number that the checks found is the rules'.)
-pub returns-then-code-ne0 : goal.returns-then-code-ne0
-returns-then-code-ne0 c =
+-- (asked: the command; found: the number that the checks found is the rules'.)
+pub returns-in-Err : goal.returns-in-Err
+returns-in-Err c =
     let k = c.args.k.now in
     let asked : Command = to_rules c.args.c in
-    let found : c.refusal-code.result ≡ refusal_as (kind asked) (shown_of k) asked = rw (← c.kind-kind.ensures) c.refusal-code.ensures in
-    let e = refused_end k asked c.refusal-code.result found c.if-code-ne0.true in
-    (ap (λ (s : Stepped). s.next) e, rw (c.refused.ensures, c.running.ensures) (ap (λ (s : Stepped). s.answer) e))
+    let r = c.in-Err.refusal in
+    let found : number_of r ≡ refusal_as (kind asked) (shown_of k) asked = rw (← c.kind-kind.ensures) c.in-Err.ensures in
+    let e = refused_end k asked (number_of r) found (some_number r) in
+    (ap (λ (s : Stepped). s.next) e, rw (c.refused.ensures, c.number.ensures, c.running.ensures) (ap (λ (s : Stepped). s.answer) e))
 
-pub returns : goal.returns
-returns c =
+pub returns-in-Ok : goal.returns-in-Ok
+returns-in-Ok c =
     let k = c.args.k.now in
     let asked : Command = to_rules c.args.c in
-    let found : c.refusal-code.result ≡ refusal_as (kind asked) (shown_of k) asked = rw (← c.kind-kind.ensures) c.refusal-code.ensures in
-    let e = accepted_end k asked c.refusal-code.result found c.if-code-ne0.false in
+    let found : zero ≡ refusal_as (kind asked) (shown_of k) asked = rw (← c.kind-kind.ensures) c.in-Ok.ensures in
+    let e = accepted_end k asked 0 found refl in
     let g = rw c.kind-kind.ensures at c.carry-released.ensures in
-    (g.0 ∙ ap (λ (s : Stepped). s.next) e, rw (c.accepted.ensures, c.running-2.ensures) (g.1 ∙ ap (λ (s : Stepped). s.answer) e))
+    (g.0 ∙ ap (λ (s : Stepped). s.next) e, rw (c.accepted.ensures, c.running-in-Ok.ensures) (g.1 ∙ ap (λ (s : Stepped). s.answer) e))

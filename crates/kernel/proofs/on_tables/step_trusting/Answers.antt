@@ -18,8 +18,8 @@ returns-then-code-ne0 c =
     tables a.base.now a.ready.now a.delayed.now a.held.now a.way.now a.until.now a.ceiling.now a.waiter.now
     a.clock.now a.started.now in
     let asked : Command = to_rules a.c in
-    let found : c.refusal-code.result ≡ refusal_as (kind asked) (shown_of k) asked = rw (← c.kind-k.ensures) c.refusal-code.ensures in
-    let e = refused_end k asked c.refusal-code.result found c.if-code-ne0.true in
+    let found : c.code-code.result ≡ refusal_as (kind asked) (shown_of k) asked = rw (← c.kind-k.ensures) (c.code-code.ensures ∙ c.checked-checked.ensures) in
+    let e = refused_end k asked c.code-code.result found c.if-code-ne0.true in
     (ap (λ (s : Stepped). s.next) e, rw (c.refused.ensures, c.running-shown.ensures) (ap (λ (s : Stepped). s.answer) e))
 
 pub returns : goal.returns
@@ -29,7 +29,7 @@ returns c =
     tables a.base.now a.ready.now a.delayed.now a.held.now a.way.now a.until.now a.ceiling.now a.waiter.now
     a.clock.now a.started.now in
     let asked : Command = to_rules a.c in
-    let found : c.refusal-code.result ≡ refusal_as (kind asked) (shown_of k) asked = rw (← c.kind-k.ensures) c.refusal-code.ensures in
-    let e = accepted_end k asked c.refusal-code.result found c.if-code-ne0.false in
+    let found : c.code-code.result ≡ refusal_as (kind asked) (shown_of k) asked = rw (← c.kind-k.ensures) (c.code-code.ensures ∙ c.checked-checked.ensures) in
+    let e = accepted_end k asked c.code-code.result found c.if-code-ne0.false in
     let g = rw c.kind-k.ensures at c.carry-t.ensures in
     (g.0 ∙ ap (λ (s : Stepped). s.next) e, rw (c.accepted.ensures, c.running-shown-2.ensures) (g.1 ∙ ap (λ (s : Stepped). s.answer) e))

@@ -6,7 +6,7 @@ use Rattle.kernel_state.proofs.State.wakes_left.Goals as goal
 pub returns-then-not-pending_sound : goal.returns-then-not-pending_sound
 returns-then-not-pending_sound c =
     let a = c.args in
-    left_unsound a.self.kernel a.self.pending a.t.0 (sym c.pending_sound.ensures ∙ c.if-not-pending_sound.true)
+    rw c.number.ensures (left_unsound a.self.kernel a.self.pending a.t.0 (sym c.pending_sound.ensures ∙ c.if-not-pending_sound.true))
 
 pub returns : goal.returns
 returns c =

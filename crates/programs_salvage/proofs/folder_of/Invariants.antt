@@ -1,9 +1,0 @@
--- The count falls.
-use Rattle.std.proofs.Common.{◌≤◌, length}
-use Rattle.programs_salvage.proofs.folder_of.Given as goal
-
-abbrev pub invariant-loop-n : goal.invariant-loop-n
-invariant-loop-n l = l.n ≤ length l.name
-
-abbrev pub decreases-loop-n : goal.decreases-loop-n
-decreases-loop-n l = l.n
