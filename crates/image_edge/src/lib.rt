@@ -16,7 +16,7 @@ ghost use Rattle.image_edge.specs.Edge.{shown, told_in, image_left, seed_left, p
 use generator::{Drawn, Profile};
 use kernel::{Answer, Command, Left, TaskID};
 use numbers::{wide32, wider};
-use record_kept::kept_of;
+use record_kept::Kept;
 
 // ---- What comes in
 
@@ -88,7 +88,7 @@ pub fn profile(span: u64, weights: &[u32]) -> Profile
 fn pack(a: Answer, exception: bool) -> u32
     ensures { result ≡ packed (shown a exception) }
 {
-    let kept = record_kept::pack(kept_of(a));
+    let kept = Kept::from(a).pack();
     if exception {
         return kept + 16777216;
     }

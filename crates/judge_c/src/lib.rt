@@ -6,20 +6,10 @@
 #![tactic(auto)]
 
 ghost use Rattle.std.specs.Prelude.{◌≡◌};
-ghost use Rattle.record_kept.specs.Kept.{packed};
 ghost use Rattle.judge_call.specs.Call as call;
 
 use judge_call::Reply;
 use judging::{Judgement, Verdict, judged};
-use numbers::wide32;
-use record_kept::Kept;
-
-// What is kept of an answer in one number, as rvn_step packs it.
-fn pack(k: Kept) -> u64
-    ensures { result ≡ packed k }
-{
-    record_kept::pack(k) as u64
-}
 
 fn reply_to(j: Judgement) -> Reply
     ensures { result ≡ call.reply_to j }
@@ -33,10 +23,15 @@ fn reply_to(j: Judgement) -> Reply
         },
         Verdict::Differs(d) => Reply {
             code: 255,
-            numbers: [seed, d.number as u64, pack(d.tape), pack(d.rules)],
+            numbers: [
+                seed,
+                d.number as u64,
+                u64::from(d.tape.pack()),
+                u64::from(d.rules.pack()),
+            ],
         },
         Verdict::Refused(e) => Reply {
-            code: wide32(e.code),
+            code: u32::from(e.refusal.number()),
             numbers: [seed, e.number as u64, 0, 0],
         },
     }

@@ -1,4 +1,4 @@
--- No second answer of `onward`: of any tables, place and bytes, only one contents of the tables and one place, seed and stage meets its contract as the check
+-- No second answer of `onward`: of any tables, place and bytes, only one contents of the tables and one place, seed and verdict meets its contract as the check
 -- states it (the law: crate one_answer, proofs/Law). Assumes nothing.
 use mathlib.Core.Path.{◌≡◌, sym, ap, ◌∙◌}
 use seplogic.Ra.Ura.{Ura}

@@ -7,12 +7,12 @@ ghost use Rattle.judge_pieces.specs.Onward as run;
 ghost use Rattle.judge_pieces.specs.Onward.{run_of};
 
 use judge_record::{command_of, compared, headed, refused};
-use judge_verdict::{Head, Stage};
+use judge_verdict::Head;
 use kernel::on_tables::step_trusting;
-use numbers::choose;
 use record::fault;
 use record_bytes::{is_marked, record_of};
-use record_kept::kept_of;
+use record_kept::Kept;
+use rules::Refusal;
 
 // The next 16 bytes. 15 and 17 come before any judgement of the record; behind a verdict nothing is looked at.
 // From judging::Judge::fresh on the tables are always sound (judging/proofs/Whole), so the step does not test them. Of
@@ -40,15 +40,16 @@ pub fn onward(
         until.old ceiling.old waiter.old clock.old started.old)
         h) p.now }
 {
-    let stage = h.stage;
-    let Stage::Going = stage else {
+    if h.verdict.is_some() {
         return h;
-    };
+    }
     let place = h.place;
     let t = record_of(p);
-    let code = choose(is_marked(p), fault(place, t), 15);
-    if code != 0 {
-        return refused(h, code, t.value);
+    if !is_marked(p) {
+        return refused(h, Refusal::Record, t.value);
+    }
+    if let Err(refusal) = fault(place, t) {
+        return refused(h, refusal, t.value);
     }
     if place == 0 {
         return headed(h, t.value);
@@ -66,5 +67,5 @@ pub fn onward(
         started,
         command_of(t),
     );
-    compared(h, t, kept_of(rules))
+    compared(h, t, Kept::from(rules))
 }

@@ -1,9 +1,8 @@
 -- A tape that comes byte by byte, and piece by piece, from any run on: the whole records so far, and the first bytes of
 -- the next one.
-use Rattle.std.specs.Prelude.{ℕ, cond, List, [], ◌∷◌, ◌++◌, eqb, length}
+use Rattle.std.specs.Prelude.{ℕ, cond, List, [], ◌∷◌, ◌++◌, eqb, length, None}
 use Rattle.rules.specs.Machine.{fresh}
 use Rattle.kernel.specs.View.{encode}
-use Rattle.judge_verdict.specs.declared.Stage.TheVariants.{Going}
 use Rattle.judge_pieces.specs.declared.Run.{Run}
 use Rattle.judge_pieces.specs.Onward.{onward}
 
@@ -30,4 +29,4 @@ behind h (p ∷ ps) = behind (bytes h p) ps
 
 -- The run before the first byte: the fresh machine's tables.
 abbrev pub at_start : Run
-at_start = record { kernel = encode fresh; place = 0; seed = 0; stage = Going }
+at_start = record { kernel = encode fresh; place = 0; seed = 0; verdict = None }

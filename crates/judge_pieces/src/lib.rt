@@ -2,7 +2,7 @@
 // specs/Bytes where behind a byte and a piece more, proofs/ what follows from that. (The judge: crate judging.)
 #![tactic(auto)]
 
-use judge_verdict::Stage;
+use judge_verdict::Verdict;
 use kernel::Kernel;
 
 // The records judged so far: the machine behind them, and the place of the next one, which is 16 times its number.
@@ -11,5 +11,5 @@ pub struct Run {
     pub kernel: Kernel,
     pub place: usize,
     pub seed: u64,
-    pub stage: Stage,
+    pub verdict: Option<Verdict>,
 }

@@ -1,2 +1,1 @@
-mod Exits
 pub mod Single

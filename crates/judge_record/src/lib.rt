@@ -5,23 +5,21 @@
 #![tactic(auto)]
 
 ghost use Rattle.std.specs.Prelude.{◌≡◌};
-ghost use Rattle.judge_verdict.specs.Verdict as verdict;
+ghost use Rattle.rules.specs.Numbers.{number_of};
+ghost use Rattle.judge_verdict.specs.Verdict as said;
 ghost use Rattle.judge_verdict.specs.Behind as behind;
 
-use judge_verdict::{Difference, Head, Refusal, Stage, Verdict};
+use judge_verdict::{Difference, Head, RefusedAt, Verdict};
 use kernel_checks::Command;
 use record::{RECORD_BYTES, Record};
-use record_kept::{Kept, kept_on, same};
+use record_kept::Kept;
+use rules::Refusal;
 
 // The place behind a record. The last places of 64 bits are followed by themselves: no tape is so long.
 fn beyond(place: usize) -> usize
     ensures { result ≡ behind.beyond place }
 {
-    if place < 18446744073709551600 {
-        place + RECORD_BYTES
-    } else {
-        place
-    }
+    place.checked_add(RECORD_BYTES).unwrap_or(place)
 }
 
 // The byte at which a record begins. No tape has the records from 2^60 on.
@@ -31,17 +29,20 @@ pub fn place_of(number: usize) -> usize
     number << 4
 }
 
-fn seed_shown(code: u8, value: u64, seed: u64) -> u64
-    ensures { result ≡ verdict.seed_shown code value seed }
+fn seed_shown(refusal: Refusal, value: u64, seed: u64) -> u64
+    ensures { result ≡ said.seed_shown (number_of refusal) value seed }
 {
-    if code == 17 { value } else { seed }
+    match refusal {
+        Refusal::Seed => value,
+        _ => seed,
+    }
 }
 
-fn refused_at(code: u8, place: usize) -> Verdict
-    ensures { result ≡ behind.refused_at code place }
+fn refused_at(refusal: Refusal, place: usize) -> Verdict
+    ensures { result ≡ behind.refused_at refusal place }
 {
-    Verdict::Refused(Refusal {
-        code,
+    Verdict::Refused(RefusedAt {
+        refusal,
         number: place >> 4,
         place,
     })
@@ -49,7 +50,7 @@ fn refused_at(code: u8, place: usize) -> Verdict
 
 // The command of a record.
 pub fn command_of(t: Record) -> Command
-    ensures { result ≡ verdict.command_shown t }
+    ensures { result ≡ said.command_shown t }
 {
     Command {
         op: t.op,
@@ -60,14 +61,14 @@ pub fn command_of(t: Record) -> Command
 }
 
 // Behind a record that is none, of that value: 15 or 17 is the verdict.
-pub fn refused(h: Head, code: u8, value: u64) -> Head
-    ensures { result ≡ behind.refused h code value }
+pub fn refused(h: Head, refusal: Refusal, value: u64) -> Head
+    ensures { result ≡ behind.refused h refusal value }
 {
     let place = h.place;
     Head {
         place,
-        seed: seed_shown(code, value, h.seed),
-        stage: Stage::Over(refused_at(code, place)),
+        seed: seed_shown(refusal, value, h.seed),
+        verdict: Some(refused_at(refusal, place)),
     }
 }
 
@@ -78,18 +79,19 @@ pub fn headed(h: Head, seed: u64) -> Head
     Head {
         place: beyond(h.place),
         seed,
-        stage: Stage::Going,
+        verdict: None,
     }
 }
 
 // Behind a command record, beside what a record keeps of the rules' answer: on to the next place, or the first that
 // differs.
+#[tactic(auto, unfolding(judge_verdict::specs::Behind::compared))]
 pub fn compared(h: Head, t: Record, rules: Kept) -> Head
     ensures { result ≡ behind.compared h t rules }
 {
     let place = h.place;
-    let tape = kept_on(t);
-    if !same(tape, rules) {
+    let tape = Kept::from(t);
+    if !tape.same(rules) {
         let number = place >> 4;
         let found = Verdict::Differs(Difference {
             number,
@@ -100,29 +102,26 @@ pub fn compared(h: Head, t: Record, rules: Kept) -> Head
         return Head {
             place,
             seed: h.seed,
-            stage: Stage::Over(found),
+            verdict: Some(found),
         };
     }
     Head {
         place: beyond(place),
         seed: h.seed,
-        stage: Stage::Going,
+        verdict: None,
     }
 }
 
 // The verdict at the end of a tape, with so many bytes behind the last record: a record that is not whole is 15, and
 // so is a tape without a header.
-pub fn at_end(stage: Stage, place: usize, count: usize) -> Verdict
-    ensures { result ≡ behind.at_end stage place count }
+pub fn at_end(verdict: Option<Verdict>, place: usize, count: usize) -> Verdict
+    ensures { result ≡ behind.at_end verdict place count }
 {
-    match stage {
-        Stage::Over(v) => v,
-        Stage::Going => {
-            if (place < RECORD_BYTES) | (count != 0) {
-                return refused_at(15, place);
-            }
-            let commands = (place >> 4) - 1;
-            Verdict::Agrees(commands)
-        }
+    if let Some(found) = verdict {
+        return found;
     }
+    if (place < RECORD_BYTES) | (count != 0) {
+        return refused_at(Refusal::Record, place);
+    }
+    Verdict::Agrees((place >> 4) - 1)
 }

@@ -14,6 +14,10 @@ use borrow.Author.Tests.{ne_eqb, eqb-true, leb-true}
 use lib.Dec.{eqb, leb}
 use lib.ListN.{length, take, drop, get_or, length-append, take-append-drop, drop_of_length-le}
 use lib.Seq.{take_at, drop_at, drop-drop, length-take-le}
+use Rattle.std.specs.Prelude.{Some, None, Result, Ok, Err}
+use Rattle.rules.specs.declared.Refusal.{Refusal}
+use Rattle.rules.specs.declared.Refusal.TheVariants.{Record as NoRecord, Seed}
+use Rattle.rules.specs.Numbers as refusals
 use Rattle.rules.specs.Machine.{Machine, Command, fresh}
 use Rattle.rules.specs.Run.{next, answer, run, answers}
 use Rattle.rules.specs.Run as rules
@@ -27,9 +31,7 @@ use Rattle.record.proofs.RoundTrip.{fields_back, bytes_spelt, sixteen_long, valu
 use Rattle.record_kept.specs.declared.Kept.{Kept}
 use Rattle.record_kept.specs.Kept.{kept, kept_on, alike}
 use Rattle.record_kept.proofs.Laws.{alike_true, alike_own, unlike}
-use Rattle.tape_form.specs.declared.Read.{Read}
-use Rattle.tape_form.specs.declared.Read.TheVariants.{Found, End, Refused}
-use Rattle.tape_form.specs.Read.{number_of, read_of, judged, place_of, next_at}
+use Rattle.tape_form.specs.Read.{Read, number_of, read_of, judged, place_of, next_at}
 use Rattle.tape_form.specs.Run as T
 use Rattle.tape_form.specs.Run.{tape_of}
 use Rattle.tape_form.proofs.Reading.{judged_not, read_judged, Stands, stands, found, end, no_record, no_seed}
@@ -40,7 +42,7 @@ use Rattle.tape_form.proofs.Answers.{place_moves}
 use Rattle.judge_verdict.specs.declared.Verdict.{Verdict}
 use Rattle.judge_verdict.specs.declared.Verdict.TheVariants.{Agrees, Differs, Refused as Malformed}
 use Rattle.judge_verdict.specs.declared.Judgement.{Judgement}
-use Rattle.judge_verdict.specs.declared.Refusal.{Refusal}
+use Rattle.judge_verdict.specs.declared.RefusedAt.{RefusedAt}
 use Rattle.judge_verdict.specs.declared.Difference.{Difference}
 use Rattle.judge_verdict.specs.Verdict.{command_of, difference, seed_shown, judged_from, verdict_of}
 use Rattle.judge_verdict.proofs.Words.{CommandRecord, behind, Begins, AllAgree, FirstDiffers, FirstRefused, no_header, bad_seed, no_command, Says}
@@ -59,11 +61,11 @@ first e = cc
 others : {x y : Kept} {l m : List Kept} → x ∷ l ≡ y ∷ m → l ≡ m
 others e = cc
 
-command_right : (at : ℕ) (r : Record) → at ≢ 0 → command_fields r ≡ true → fault_of at r ≡ 0
+command_right : (at : ℕ) (r : Record) → at ≢ 0 → command_fields r ≡ true → fault_of at r ≡ Ok tt
 unfolding fault_of
 command_right at r n k = rw (ne_eqb at 0 n, k)
 
-header_right : (edition seed : ℕ) → is_edition edition ≡ true → is_seed seed ≡ true → fault_of 0 (header_of edition seed) ≡ 0
+header_right : (edition seed : ℕ) → is_edition edition ≡ true → is_seed seed ≡ true → fault_of 0 (header_of edition seed) ≡ Ok tt
 unfolding fault_of
 header_right edition seed h k = rw (h, k)
 
@@ -80,13 +82,13 @@ unfolding run answers judged_from
 past s [] m n last seed g f front rest es l o el eg k a = let p : last ≡ n = omega arith in let q : g ≡ f = omega arith in rw (p, q)
 past s (r ∷ rs) m n last seed g f front rest es l o el eg k a =
     let e : s ≡ front ++ (bytes_of r ++ (tape_of rs ++ rest)) = es ∙ ap (λ (x : List ℕ). front ++ x) (append_assoc (bytes_of r) (tape_of rs) rest) in
-    let d : read_of s (16 * n) ≡ Found r (16 * n + 16) = ap (λ (x : List ℕ). read_of x (16 * n)) e
+    let d : read_of s (16 * n) ≡ Ok (Some (r, 16 * n + 16)) = ap (λ (x : List ℕ). read_of x (16 * n)) e
     ∙ found_there front (tape_of rs ++ rest) (16 * n) r l (omega arith) (command_right (16 * n) r (λ z. omega arith) k.0.0) k.0.1 in
     let t : 16 * n + 16 ≡ 16 * suc n = omega arith in
     let q : g - 1 ≡ length rs + f = omega arith in
     let w : length (front ++ bytes_of r) ≡ 16 * suc n = length-append front (bytes_of r) ∙ omega (arith, sixteen_long r) in
     rw (
-      one_read g s (16 * n) (Found r (16 * n + 16)) (omega arith) d,
+      one_read g s (16 * n) (Ok (Some (r, 16 * n + 16))) (omega arith) d,
       q,
       t,
       ne_eqb n 0 (λ z. omega arith),
@@ -101,10 +103,10 @@ headed_verdict : (s : List ℕ) (edition seed : ℕ) (rest : List ℕ) → s ≡
     → is_seed seed ≡ true → verdict_of s ≡ judged_from fresh 1 seed (T.answers (length s) s 16)
 unfolding verdict_of judged_from
 headed_verdict s edition seed rest e h k =
-    let d : read_of s 0 ≡ Found (header_of edition seed) 16 = ap (λ (x : List ℕ). read_of x 0) e
+    let d : read_of s 0 ≡ Ok (Some (header_of edition seed, 16)) = ap (λ (x : List ℕ). read_of x 0) e
     ∙ found_there [] rest 0 (header_of edition seed) refl refl (header_right edition seed h k) (seed_small seed k) in
     let q : suc (length s) - 1 ≡ length s = omega arith in
-    rw (one_read (suc (length s)) s 0 (Found (header_of edition seed) 16) (omega arith) d, q)
+    rw (one_read (suc (length s)) s 0 (Ok (Some (header_of edition seed, 16))) (omega arith) d, q)
 
 module _ (s : List ℕ) (seed : ℕ) (rs : List Record) (rest : List ℕ) (b : Begins s seed rs rest) where
   long : length s ≡ 16 * suc (length rs) + length rest
@@ -130,9 +132,9 @@ unfolding judged_from
 agrees_judged s seed k a =
     let rs = a.records in
     let l : length s ≡ 16 * suc (length rs) = long s seed rs [] a.begins ∙ omega arith in
-    let e : read_of s (16 * suc (length rs)) ≡ End = end_there s (16 * suc (length rs)) (omega arith) (sym l) (omega arith) in
+    let e : read_of s (16 * suc (length rs)) ≡ Ok None = end_there s (16 * suc (length rs)) (omega arith) (sym l) (omega arith) in
     let c : suc (length rs) - 1 ≡ k = omega (arith, a.count) in
-    then s seed rs [] a.begins End e ∙ rw c
+    then s seed rs [] a.begins (Ok None) e ∙ rw c
 
 differs_judged : (s : List ℕ) (seed : ℕ) (d : Difference) → FirstDiffers s seed d → verdict_of s ≡ record { seed = seed; verdict = Differs d }
 unfolding judged_from
@@ -142,11 +144,11 @@ differs_judged s seed d a =
     let n : alike (kept_on r) (kept (answer (behind rs) (command_of r))) ≡ false =
     unlike (kept_on r) (kept (answer (behind rs) (command_of r))) a.differs in
     let l : length (tape_of (header_of a.begins.edition seed ∷ rs)) ≡ 16 * suc (length rs) = tape_long (header_of a.begins.edition seed ∷ rs) in
-    let e : read_of s (16 * suc (length rs)) ≡ Found r (16 * suc (length rs) + 16) =
+    let e : read_of s (16 * suc (length rs)) ≡ Ok (Some (r, 16 * suc (length rs) + 16)) =
     ap (λ (x : List ℕ). read_of x (16 * suc (length rs))) a.begins.bytes
     ∙ found_there (tape_of (header_of a.begins.edition seed ∷ rs)) a.rest (16 * suc (length rs)) r l (omega arith)
     (command_right (16 * suc (length rs)) r (λ z. omega arith) a.command.0) a.command.1 in
-    then s seed rs (bytes_of r ++ a.rest) a.begins (Found r (16 * suc (length rs) + 16)) e ∙ rw (n, ne_eqb (suc (length rs)) 0 (λ z. omega arith), a.told)
+    then s seed rs (bytes_of r ++ a.rest) a.begins (Ok (Some (r, 16 * suc (length rs) + 16))) e ∙ rw (n, ne_eqb (suc (length rs)) 0 (λ z. omega arith), a.told)
 
 -- a header whose value is no seed
 module _ (s : List ℕ) (edition value : ℕ) (rest : List ℕ) (known : is_edition edition ≡ true) (e : s ≡ bytes_of (header_of edition value) ++ rest)
@@ -157,23 +159,23 @@ module _ (s : List ℕ) (edition value : ℕ) (rest : List ℕ) (known : is_edit
   bad_value : (record_of (take 16 s)).value ≡ value
   bad_value = ap (λ (l : List ℕ). (record_of l).value) at_first ∙ ap (λ (r : Record). r.value) (fields_back (header_of edition value) small)
 
-  bad_fault : is_seed value ≡ false → fault_of 0 (header_of edition value) ≡ 17
+  bad_fault : is_seed value ≡ false → fault_of 0 (header_of edition value) ≡ Err Seed
   unfolding fault_of
   bad_fault n = rw (known, n)
 
-  bad_read : is_seed value ≡ false → read_of s 0 ≡ Refused 17
+  bad_read : is_seed value ≡ false → read_of s 0 ≡ Err Seed
   bad_read n =
       let l : 16 ≤ length s = rw (e, length-append (bytes_of (header_of edition value)) rest, sixteen_long (header_of edition value)) (omega arith) in
       sym (read_judged s 0 refl (omega arith) (λ q. omega arith) l) ∙ ap (judged 0) at_first
-      ∙ sym (judged_not 0 (bytes_of (header_of edition value)) 17 (sym (own_fault 0 (header_of edition value) small ∙ bad_fault n)) (λ q. omega arith))
+      ∙ sym (judged_not 0 (bytes_of (header_of edition value)) (own_fault 0 (header_of edition value) small ∙ bad_fault n))
 
-stops_judged : (s : List ℕ) (seed : ℕ) (e : Refusal) → FirstRefused s seed e → verdict_of s ≡ record { seed = seed; verdict = Malformed e }
+stops_judged : (s : List ℕ) (seed : ℕ) (e : RefusedAt) → FirstRefused s seed e → verdict_of s ≡ record { seed = seed; verdict = Malformed e }
 unfolding judged_from verdict_of
-stops_judged s seed e (no_header h) = rw (one_read (suc (length s)) s 0 (Refused 15) (omega arith) h, h)
+stops_judged s seed e (no_header h) = rw (one_read (suc (length s)) s 0 (Err NoRecord) (omega arith) h, h)
 stops_judged s seed e (bad_seed edition value rest k q l n) =
     let h = bad_read s edition value rest k q l n in
-    rw (one_read (suc (length s)) s 0 (Refused 17) (omega arith) h, h, bad_value s edition value rest k q l)
-stops_judged s seed e (no_command seed' rs rest b h) = then s seed' rs rest b (Refused 15) h
+    rw (one_read (suc (length s)) s 0 (Err Seed) (omega arith) h, h, bad_value s edition value rest k q l)
+stops_judged s seed e (no_command seed' rs rest b h) = then s seed' rs rest b (Err NoRecord) h
 
 -- Whatever is said so of a tape is its judgement.
 pub says_judged : (s : List ℕ) (seed : ℕ) (v : Verdict) → Says s seed v → verdict_of s ≡ record { seed = seed; verdict = v }
@@ -213,22 +215,22 @@ all_more : (P : Record → Type 0) (rs : List Record) (r : Record) → All P rs 
 all_more P [] r a p = (p, tt)
 all_more P (q ∷ rs) r a p = (a.0, all_more P rs r a.1 p)
 
-has_command_fields : (at : ℕ) (r : Record) → at ≢ 0 → fault_of at r ≡ 0 → command_fields r ≡ true
+has_command_fields : (at : ℕ) (r : Record) → at ≢ 0 → fault_of at r ≡ Ok tt → command_fields r ≡ true
 unfolding fault_of
 has_command_fields at r n e = go (command_fields r) (rw (ne_eqb at 0 n) at e)
   where
-    go : (t : Bool) → cond {A = ℕ} t 0 15 ≡ 0 → t ≡ true
+    go : (t : Bool) → cond {A = Result (Unit {0}) Refusal} t (Ok tt) (Err NoRecord) ≡ Ok tt → t ≡ true
     go true z = refl
-    go false z = absurd (omega arith)
+    go false z = absurd cc
 
 -- behind the header a refusal is 15
-refused_behind : (s : List ℕ) (at c : ℕ) → at ≢ 0 → read_of s at ≡ Refused c → c ≡ 15
+refused_behind : (s : List ℕ) (at : ℕ) (c : Refusal) → at ≢ 0 → read_of s at ≡ Err c → c ≡ NoRecord
 refused_behind s at c n = go (stands s at)
   where
-    go : {x : Read} → Stands s at x → x ≡ Refused c → c ≡ 15
-    go (found w l f) e = let q : ◌≡◌ {A = ℕ} 0 1 = cc in absurd (omega arith)
-    go (end w l f) e = let q : ◌≡◌ {A = ℕ} 0 1 = cc in absurd (omega arith)
-    go no_record e = let q : c ≡ 15 = cc in q
+    go : {x : Read} → Stands s at x → x ≡ Err c → c ≡ NoRecord
+    go (found w l f) e = absurd cc
+    go (end w l f) e = absurd cc
+    go no_record e = cc
     go (no_seed a l) e = absurd (n a)
 
 module _ (s : List ℕ) (small : (i : ℕ) → get_or s i 0 < 256) where
@@ -239,7 +241,7 @@ module _ (s : List ℕ) (small : (i : ℕ) → get_or s i 0 < 256) where
         ap (λ (x : List ℕ). drop (16 * suc (length rs)) x) b.bytes
         ∙ drop_at (tape_of (header_of b.edition seed ∷ rs)) rest (16 * suc (length rs)) (tape_long (header_of b.edition seed ∷ rs))
 
-    module _ (r : Record) (at : ℕ) (e : read_of s (16 * suc (length rs)) ≡ Found r at) where
+    module _ (r : Record) (at : ℕ) (e : read_of s (16 * suc (length rs)) ≡ Ok (Some (r, at))) where
       there : IsThere s (16 * suc (length rs)) r at
       there = is_there s small (16 * suc (length rs)) r at e
 
@@ -287,7 +289,7 @@ module _ (s : List ℕ) (small : (i : ℕ) → get_or s i 0 < 256) where
             told = refl;
           }
 
-    at_end : read_of s (16 * suc (length rs)) ≡ End → Spoken s (record { seed = seed; verdict = Agrees (length rs) })
+    at_end : read_of s (16 * suc (length rs)) ≡ Ok None → Spoken s (record { seed = seed; verdict = Agrees (length rs) })
     at_end e =
         let l = end_place s (16 * suc (length rs)) e in
         let z : rest ≡ [] = sym left ∙ drop_of_length-le s {i = 16 * suc (length rs)} (omega arith) in
@@ -309,7 +311,7 @@ module _ (s : List ℕ) (small : (i : ℕ) → get_or s i 0 < 256) where
     -- one record more, or the judgement
     module _ (f : ℕ) (ih : (seed' : ℕ) (rs' : List Record) (rest' : List ℕ) → Begins s seed' rs' rest' → length rest' < f
         → Spoken s (judged_from (behind rs') (suc (length rs')) seed' (T.answers f s (16 * suc (length rs'))))) (o : length rest < suc f) where
-      agreed : (r : Record) (at : ℕ) (e : read_of s (16 * suc (length rs)) ≡ Found r at) → kept_on r ≡ kept (answer (behind rs) (command_of r))
+      agreed : (r : Record) (at : ℕ) (e : read_of s (16 * suc (length rs)) ≡ Ok (Some (r, at))) → kept_on r ≡ kept (answer (behind rs) (command_of r))
           → Spoken s (judged_from (next (behind rs) (command_of r)) (suc (suc (length rs))) seed (T.answers f s at))
       agreed r at e a =
           let w : length rest ≡ 16 + length (drop 16 rest) = ap (λ (x : List ℕ). length x) (split r at e) ∙ length-append (bytes_of r) (drop 16 rest)
@@ -320,7 +322,7 @@ module _ (s : List ℕ) (small : (i : ℕ) → get_or s i 0 < 256) where
           let t : 16 * suc (suc (length rs)) ≡ at = omega (arith, (there r at e).behind) in
           rw (m, l, t) at (ih seed (rs ++ (r ∷ [])) (drop 16 rest) (more r at e a) (omega arith))
 
-      either : (r : Record) (at : ℕ) (e : read_of s (16 * suc (length rs)) ≡ Found r at) (t : Bool)
+      either : (r : Record) (at : ℕ) (e : read_of s (16 * suc (length rs)) ≡ Ok (Some (r, at))) (t : Bool)
           → alike (kept_on r) (kept (answer (behind rs) (command_of r))) ≡ t
           → Spoken s (cond t (judged_from (next (behind rs) (command_of r)) (suc (suc (length rs))) seed (T.answers f s at))
           (record { seed = seed; verdict = difference (suc (length rs)) r (kept (answer (behind rs) (command_of r))) }))
@@ -330,9 +332,9 @@ module _ (s : List ℕ) (small : (i : ℕ) → get_or s i 0 < 256) where
       by_read : (x : Read) → read_of s (16 * suc (length rs)) ≡ x
           → Spoken s (judged_from (behind rs) (suc (length rs)) seed (x ∷ T.answers f s (place_of (16 * suc (length rs)) x)))
       unfolding judged_from
-      by_read (Refused c) e = let q = refused_behind s (16 * suc (length rs)) c (λ z. omega arith) e in rw q (no_command seed rs rest b (rw q at e))
-      by_read End e = let q : suc (length rs) - 1 ≡ length rs = omega arith in rw q (at_end e)
-      by_read (Found r at) e =
+      by_read (Err c) e = let q = refused_behind s (16 * suc (length rs)) c (λ z. omega arith) e in rw q (no_command seed rs rest b (rw q at e))
+      by_read (Ok None) e = let q : suc (length rs) - 1 ≡ length rs = omega arith in rw q (at_end e)
+      by_read (Ok (Some (r, at))) e =
           rw (ne_eqb (suc (length rs)) 0 (λ z. omega arith)) (either r at e (alike (kept_on r) (kept (answer (behind rs) (command_of r)))) refl)
 
       one_more : Spoken s (judged_from (behind rs) (suc (length rs)) seed (T.answers (suc f) s (16 * suc (length rs))))
@@ -346,14 +348,14 @@ module _ (s : List ℕ) (small : (i : ℕ) → get_or s i 0 < 256) where
 
 -- ---- and the header
 
-has_header_fields : (r : Record) → fault_of 0 r ≡ 0 → (header_fields r ≡ true) × (is_seed r.value ≡ true)
+has_header_fields : (r : Record) → fault_of 0 r ≡ Ok tt → (header_fields r ≡ true) × (is_seed r.value ≡ true)
 unfolding fault_of
 has_header_fields r e = go (header_fields r) (is_seed r.value) e
   where
-    go : (h v : Bool) → cond {A = ℕ} h (cond v 0 17) 15 ≡ 0 → (h ≡ true) × (v ≡ true)
+    go : (h v : Bool) → cond {A = Result (Unit {0}) Refusal} h (cond v (Ok tt) (Err Seed)) (Err NoRecord) ≡ Ok tt → (h ≡ true) × (v ≡ true)
     go true true z = (refl, refl)
-    go true false z = absurd (omega arith)
-    go false v z = absurd (omega arith)
+    go true false z = absurd cc
+    go false v z = absurd cc
 
 made : {op a b code running released : ℕ} → op ≡ 0 → b ≡ 0 → code ≡ 0 → running ≡ 0 → released ≡ 0 → (v : ℕ)
     → ◌≡◌ {A = Record} (record { op = op; a = a; b = b; code = code; running = running; released = released; value = v }) (header_of a v)
@@ -372,7 +374,7 @@ header_is r e =
       j.1,
     )
 
-header_begins : (s : List ℕ) (small : (i : ℕ) → get_or s i 0 < 256) (r : Record) (at : ℕ) → read_of s 0 ≡ Found r at → Begins s r.value [] (drop 16 s)
+header_begins : (s : List ℕ) (small : (i : ℕ) → get_or s i 0 < 256) (r : Record) (at : ℕ) → read_of s 0 ≡ Ok (Some (r, at)) → Begins s r.value [] (drop 16 s)
 unfolding answers
 header_begins s small r at e =
     let k = is_there s small 0 r at e in
@@ -395,25 +397,25 @@ record BadSeed (p : List ℕ) : Type 0 where
   fields : header_fields (record_of p) ≡ true
   value : is_seed (record_of p).value ≡ false
 
-seventeen_bytes : (p : List ℕ) → judged 0 p ≡ Refused 17 → BadSeed p
+seventeen_bytes : (p : List ℕ) → judged 0 p ≡ Err Seed → BadSeed p
 unfolding judged
 seventeen_bytes p = go (marked p) refl (header_fields (record_of p)) refl (is_seed (record_of p).value) refl
   where
     go : (m : Bool) → marked p ≡ m → (h : Bool) → header_fields (record_of p) ≡ h → (v : Bool) → is_seed (record_of p).value ≡ v
-        → cond (m && h && v) (Found (record_of p) 16) (cond (m && h && not v) (Refused 17) (Refused 15)) ≡ Refused 17 → BadSeed p
+        → cond {A = Read} (m && h && v) (Ok (Some (record_of p, 16))) (cond (m && h && not v) (Err Seed) (Err NoRecord)) ≡ Err Seed → BadSeed p
     go true em true eh false ev e = record { mark = em; fields = eh; value = ev }
-    go true em true eh true ev e = let q : ◌≡◌ {A = ℕ} 0 1 = cc in absurd (omega arith)
-    go true em false eh v ev e = let q : ◌≡◌ {A = ℕ} 15 17 = cc in absurd (omega arith)
-    go false em h eh v ev e = let q : ◌≡◌ {A = ℕ} 15 17 = cc in absurd (omega arith)
+    go true em true eh true ev e = absurd cc
+    go true em false eh v ev e = absurd cc
+    go false em h eh v ev e = absurd cc
 
-header_refused : (s : List ℕ) (small : (i : ℕ) → get_or s i 0 < 256) (c : ℕ) → read_of s 0 ≡ Refused c
-    → FirstRefused s (seed_shown c (record_of (take 16 s)).value 0) (record { code = c; number = 0; place = 0 })
+header_refused : (s : List ℕ) (small : (i : ℕ) → get_or s i 0 < 256) (c : Refusal) → read_of s 0 ≡ Err c
+    → FirstRefused s (seed_shown (refusals.number_of c) (record_of (take 16 s)).value 0) (record { refusal = c; number = 0; place = 0 })
 header_refused s small c e = go (stands s 0) e
   where
     p : List ℕ
     p = take 16 s
 
-    bad : 16 ≤ length s → read_of s 0 ≡ Refused 17 → FirstRefused s (record_of p).value (record { code = 17; number = 0; place = 0 })
+    bad : 16 ≤ length s → read_of s 0 ≡ Err Seed → FirstRefused s (record_of p).value (record { refusal = Seed; number = 0; place = 0 })
     bad l q =
         let k = seventeen_bytes p (read_judged s 0 refl (omega arith) (λ z. omega arith) l ∙ q) in
         let h = header_is (record_of p) k.fields in
@@ -422,11 +424,11 @@ header_refused s small c e = go (stands s 0) e
         bad_seed (record_of p).a (record_of p).value (drop 16 s) h.1 (sym (take-append-drop 16 s) ∙ ap (λ (x : List ℕ). x ++ drop 16 s) (sym b))
         (value_kept p (part_small s small 0)) k.value
 
-    go : {x : Read} → Stands s 0 x → x ≡ Refused c → FirstRefused s (seed_shown c (record_of p).value 0) (record { code = c; number = 0; place = 0 })
-    go (found w l f) q = let z : ◌≡◌ {A = ℕ} 0 1 = cc in absurd (omega arith)
-    go (end w l f) q = let z : ◌≡◌ {A = ℕ} 0 1 = cc in absurd (omega arith)
-    go no_record q = let z : c ≡ 15 = cc in rw z (no_header (rw z at e))
-    go (no_seed a l) q = let z : c ≡ 17 = cc in rw z (bad l (rw z at e))
+    go : {x : Read} → Stands s 0 x → x ≡ Err c → FirstRefused s (seed_shown (refusals.number_of c) (record_of p).value 0) (record { refusal = c; number = 0; place = 0 })
+    go (found w l f) q = absurd cc
+    go (end w l f) q = absurd cc
+    go no_record q = let z : c ≡ NoRecord = cc in rw z (no_header (rw z at e))
+    go (no_seed a l) q = let z : c ≡ Seed = cc in rw z (bad l (rw z at e))
 
 -- Of every byte string, the judgement is what it says: one of the three.
 -- (Numbers below 256: a byte string. The other way needs no such premise.)
@@ -436,9 +438,9 @@ judged_says s small = go (read_of s 0) refl
   where
     go : (x : Read) → read_of s 0 ≡ x → Spoken s
         (judged_from fresh 0 (seed_shown (number_of x) (record_of (take 16 s)).value 0) (x ∷ T.answers (length s) s (place_of 0 x)))
-    go (Refused c) e = header_refused s small c e
-    go End e = let p = end_place s 0 e in absurd (omega arith)
-    go (Found r at) e =
+    go (Err c) e = header_refused s small c e
+    go (Ok None) e = let p = end_place s 0 e in absurd (omega arith)
+    go (Ok (Some (r, at))) e =
         let k = is_there s small 0 r at e in
         let t : at ≡ 16 = omega (arith, k.behind) in
         let b = header_begins s small r at e in
@@ -446,13 +448,13 @@ judged_says s small = go (read_of s 0) refl
 
 -- ---- the number of a refusal
 
-stops_number : (s : List ℕ) (seed : ℕ) (e : Refusal) → FirstRefused s seed e → RefusedWith e
+stops_number : (s : List ℕ) (seed : ℕ) (e : RefusedAt) → FirstRefused s seed e → RefusedWith e
 stops_number s seed e (no_header h) = fifteen refl
 stops_number s seed e (bad_seed edition value rest h q l n) = seventeen refl refl
 stops_number s seed e (no_command seed' rs rest b h) = fifteen refl
 
 -- Where a byte string is refused the number is 15, or it is 17 and the record is the header.
-pub refused_number : (s : List ℕ) → ((i : ℕ) → get_or s i 0 < 256) → (e : Refusal) → (verdict_of s).verdict ≡ Malformed e → RefusedWith e
+pub refused_number : (s : List ℕ) → ((i : ℕ) → get_or s i 0 < 256) → (e : RefusedAt) → (verdict_of s).verdict ≡ Malformed e → RefusedWith e
 refused_number s small e q = stops_number s (verdict_of s).seed e (rw q at (judged_says s small))
 
 -- ---- the seed
@@ -462,9 +464,9 @@ seed_kept : (l : List Read) (m : Machine) (n seed seed' : ℕ) → 1 ≤ n → j
     ≡ record { seed = seed; verdict = (judged_from m n seed' l).verdict }
 unfolding judged_from
 seed_kept [] m n seed seed' o = refl
-seed_kept (Refused c ∷ l) m n seed seed' o = refl
-seed_kept (End ∷ l) m n seed seed' o = refl
-seed_kept (Found r at ∷ l) m n seed seed' o =
+seed_kept (Err e ∷ l) m n seed seed' o = refl
+seed_kept (Ok None ∷ l) m n seed seed' o = refl
+seed_kept (Ok (Some (r, at)) ∷ l) m n seed seed' o =
     rw (ne_eqb n 0 (λ z. omega arith))
     (go (alike (kept_on r) (kept (answer m (command_of r)))) (judged_from (next m (command_of r)) (suc n) seed' l)
     (seed_kept l (next m (command_of r)) (suc n) seed seed' (omega arith)))

@@ -1,16 +1,15 @@
 -- The judgement of a tape: its records are read one by one, and each command record's code, running and released are
 -- held against the rules', along the run of its commands from the fresh machine.
-use Rattle.std.specs.Prelude.{ℕ, suc, ◌-◌, ◌*◌, cond, List, [], ◌∷◌, eqb, length, take}
+use Rattle.std.specs.Prelude.{ℕ, suc, ◌-◌, ◌*◌, cond, List, [], ◌∷◌, eqb, length, take, Some, None, Ok, Err}
 use Rattle.rules.specs.Machine.{Machine, Command, fresh}
 use Rattle.rules.specs.Run.{next, answer}
+use Rattle.rules.specs.Numbers as refusals
 use Rattle.kernel_checks.specs.declared.Command as given
 use Rattle.record.specs.declared.Record.{Record}
 use Rattle.record.specs.Form.{record_of}
 use Rattle.record_kept.specs.declared.Kept.{Kept}
 use Rattle.record_kept.specs.Kept.{kept, kept_on, alike}
-use Rattle.tape_form.specs.declared.Read.{Read}
-use Rattle.tape_form.specs.declared.Read.TheVariants.{Found, End, Refused}
-use Rattle.tape_form.specs.Read.{number_of, read_of}
+use Rattle.tape_form.specs.Read.{Read, number_of, read_of}
 use Rattle.tape_form.specs.Run.{answers}
 use Rattle.judge_verdict.specs.declared.Verdict.{Verdict}
 use Rattle.judge_verdict.specs.declared.Verdict.TheVariants.{Agrees, Differs, Refused as Malformed}
@@ -33,7 +32,7 @@ difference n r k = Differs (record { number = n; command = command_shown r; tape
 abbrev pub verdict_number : Verdict → ℕ
 verdict_number (Agrees k) = 0
 verdict_number (Differs d) = 255
-verdict_number (Malformed e) = e.code
+verdict_number (Malformed e) = refusals.number_of e.refusal
 
 -- And its values: how many command records there are; the record's number, place and command, with the answer on the
 -- tape and the rules'; the record's number and place.
@@ -62,10 +61,10 @@ seed_shown code value seed = cond (eqb code 17) value seed
 -- that differs: what it keeps is held against what a record would keep of the rules' answer.
 unfoldable pub judged_from : Machine → ℕ → ℕ → List Read → Judgement
 judged_from m n seed [] = record { seed = seed; verdict = Agrees (n - 1) }
-judged_from m n seed (Refused c ∷ l) =
-    record { seed = seed; verdict = Malformed (record { code = c; number = n; place = 16 * n }) }
-judged_from m n seed (End ∷ l) = record { seed = seed; verdict = Agrees (n - 1) }
-judged_from m n seed (Found r at ∷ l) =
+judged_from m n seed (Err e ∷ l) =
+    record { seed = seed; verdict = Malformed (record { refusal = e; number = n; place = 16 * n }) }
+judged_from m n seed (Ok None ∷ l) = record { seed = seed; verdict = Agrees (n - 1) }
+judged_from m n seed (Ok (Some (r, at)) ∷ l) =
     cond (eqb n 0) (judged_from m 1 r.value l)
     (cond (alike (kept_on r) (kept (answer m (command_of r)))) (judged_from (next m (command_of r)) (suc n) seed l)
     (record { seed = seed; verdict = difference n r (kept (answer m (command_of r))) }))

@@ -4,6 +4,7 @@
 
 pub use kernel_checks::Command;
 pub use record_kept::Kept;
+use rules::Refusal;
 
 // The first record that differs: its number (the header is 0), its command, and of the answers what a record keeps:
 // the tape's, and the rules'.
@@ -15,10 +16,10 @@ pub struct Difference {
     pub rules: Kept,
 }
 
-// 15 or 17 as the reader gives them, the record's number, and its byte place.
+// The refusal as the reader gives it, Record (15) or Seed (17), the record's number, and its byte place.
 #[derive(Clone, Copy)]
-pub struct Refusal {
-    pub code: u8,
+pub struct RefusedAt {
+    pub refusal: Refusal,
     pub number: usize,
     pub place: usize,
 }
@@ -28,7 +29,7 @@ pub enum Verdict {
     // every answer is the rules': the number of command records
     Agrees(usize),
     Differs(Difference),
-    Refused(Refusal),
+    Refused(RefusedAt),
 }
 
 // The header's seed, and the verdict. Of a header that is refused for its seed (17) that is shown too; where there is
@@ -39,19 +40,11 @@ pub struct Judgement {
     pub verdict: Verdict,
 }
 
-#[derive(Clone, Copy)]
-pub enum Stage {
-    // all is right so far
-    Going,
-    // the verdict is there, and no record is looked at any more
-    Over(Verdict),
-}
-
 // Where a judge stands beside its machine: the place of the next record, which is 16 times its number, the seed that
-// is shown, and the stage.
+// is shown, and the verdict: None while all is right, and behind it no record is looked at any more.
 #[derive(Clone, Copy)]
 pub struct Head {
     pub place: usize,
     pub seed: u64,
-    pub stage: Stage,
+    pub verdict: Option<Verdict>,
 }

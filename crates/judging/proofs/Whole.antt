@@ -21,16 +21,16 @@ use Rattle.kernel.specs.View.{encode, pad}
 use Rattle.kernel.proofs.Whole.{stepped_tie}
 use Rattle.record.specs.declared.Record.{Record}
 use Rattle.record.specs.Form.{record_of}
-use Rattle.tape_form.specs.declared.Read.{Read}
-use Rattle.tape_form.specs.declared.Read.TheVariants.{Found, End, Refused}
-use Rattle.tape_form.specs.Read.{number_of, read_of, judged, end_of, place_of, next_at}
+use Rattle.tape_form.specs.Read.{Read, number_of, read_of, judged, end_of, place_of, next_at}
 use Rattle.tape_form.specs.Run.{answers}
 use Rattle.tape_form.proofs.Reading.{Stands, stands, found, end, no_record, no_seed, sixteen, read_end, read_short, read_judged}
 use Rattle.judge_verdict.specs.declared.Verdict.{Verdict}
 use Rattle.judge_verdict.specs.declared.Verdict.TheVariants.{Agrees, Refused as Malformed}
 use Rattle.judge_verdict.specs.declared.Judgement.{Judgement}
-use Rattle.judge_verdict.specs.declared.Stage.TheVariants.{Going, Over}
-use Rattle.judge_verdict.specs.declared.Stage.{Stage}
+use Rattle.std.specs.Prelude.{Option, Some, None, Ok, Err, is_some}
+use Rattle.rules.specs.declared.Refusal.{Refusal}
+use Rattle.rules.specs.declared.Refusal.TheVariants.{Record as NoRecord, Seed}
+use Rattle.rules.specs.Numbers as refusals
 use Rattle.judge_verdict.specs.declared.Head.{Head}
 use Rattle.judge_pieces.specs.declared.Run.{Run}
 use Rattle.judging.specs.declared.Judge.{Judge}
@@ -46,55 +46,55 @@ use Rattle.judge_pieces.specs.Onward.{run_of, head_of, answered, taken, onward}
 
 -- ---- behind a verdict nothing changes
 
-over_byte : (h : Pending) (b : ℕ) (v : Verdict) → h.run.stage ≡ Over v → (byte h b).run ≡ h.run
+over_byte : (h : Pending) (b : ℕ) (v : Verdict) → h.run.verdict ≡ Some v → (byte h b).run ≡ h.run
 unfolding byte
 over_byte h b v e = go (eqb (length h.begun) 15)
   where
     go : (t : Bool) → (cond {A = Pending} t (record { run = onward h.run (h.begun ++ (b ∷ [])); begun = [] })
         (record { run = h.run; begun = h.begun ++ (b ∷ []) })).run ≡ h.run
-    go true = sym (onward_over h.run (h.begun ++ (b ∷ [])) v e)
+    go true = sym (onward_over h.run (h.begun ++ (b ∷ [])) (ap is_some e))
     go false = refl
 
-over_stays : (p : List ℕ) (h : Pending) (v : Verdict) → h.run.stage ≡ Over v → (bytes h p).run ≡ h.run
+over_stays : (p : List ℕ) (h : Pending) (v : Verdict) → h.run.verdict ≡ Some v → (bytes h p).run ≡ h.run
 unfolding bytes
 over_stays [] h v e = refl
-over_stays (b ∷ p) h v e = over_stays p (byte h b) v (ap (λ (x : Run). x.stage) (over_byte h b v e) ∙ e) ∙ over_byte h b v e
+over_stays (b ∷ p) h v e = over_stays p (byte h b) v (ap (λ (x : Run). x.verdict) (over_byte h b v e) ∙ e) ∙ over_byte h b v e
 
-ends_over : (h : Pending) (v : Verdict) → h.run.stage ≡ Over v → ended (judge_of h) ≡ record { seed = h.run.seed; verdict = v }
+ends_over : (h : Pending) (v : Verdict) → h.run.verdict ≡ Some v → ended (judge_of h) ≡ record { seed = h.run.seed; verdict = v }
 unfolding ended
 ends_over h v e = rw e
 
-over_ends : (x : Run) (p : List ℕ) (v : Verdict) → x.stage ≡ Over v → ended (judge_of (bytes (record { run = x; begun = [] }) p))
+over_ends : (x : Run) (p : List ℕ) (v : Verdict) → x.verdict ≡ Some v → ended (judge_of (bytes (record { run = x; begun = [] }) p))
     ≡ record { seed = x.seed; verdict = v }
 over_ends x p v e =
     let q = over_stays p (record { run = x; begun = [] }) v e in
-    ends_over (bytes (record { run = x; begun = [] }) p) v (ap (λ (y : Run). y.stage) q ∙ e)
+    ends_over (bytes (record { run = x; begun = [] }) p) v (ap (λ (y : Run). y.verdict) q ∙ e)
     ∙ ap (λ (y : Run). let z : Judgement = record { seed = y.seed; verdict = v } in z) q
 
 -- Behind a verdict more pieces change nothing: who stops reading there has the tape's judgement.
-pub verdict_stays : (j : Judge) (p : List ℕ) → to_come j.run.stage ≡ false → ended (fed j p) ≡ ended j
+pub verdict_stays : (j : Judge) (p : List ℕ) → to_come j.run.verdict ≡ false → ended (fed j p) ≡ ended j
 unfolding fed ended
-verdict_stays j p n = go j.run.stage refl n
+verdict_stays j p n = go j.run.verdict refl n
   where
-    go : (t : Stage) → j.run.stage ≡ t → to_come t ≡ false → ended (judge_of (bytes (pending_of j) p)) ≡ ended j
-    go Going e f = absurd (true≢false f)
-    go (Over v) e f =
+    go : (t : Option Verdict) → j.run.verdict ≡ t → to_come t ≡ false → ended (judge_of (bytes (pending_of j) p)) ≡ ended j
+    go None e f = absurd (true≢false f)
+    go (Some v) e f =
         let q = over_stays p (pending_of j) v e in
-        ends_over (bytes (pending_of j) p) v (ap (λ (y : Run). y.stage) q ∙ e)
+        ends_over (bytes (pending_of j) p) v (ap (λ (y : Run). y.verdict) q ∙ e)
         ∙ ap (λ (y : Run). let z : Judgement = record { seed = y.seed; verdict = v } in z) q ∙ rw e
 
 -- ---- record by record
 
 -- the tables of a machine, before record n
 abbrev going : Machine → ℕ → ℕ → Run
-going m n seed = record { kernel = encode m; place = 16 * n; seed = seed; stage = Going }
+going m n seed = record { kernel = encode m; place = 16 * n; seed = seed; verdict = None }
 
 -- and behind a verdict on record n
 abbrev over : Machine → ℕ → ℕ → Verdict → Run
-over m n seed v = record { kernel = encode m; place = 16 * n; seed = seed; stage = Over v }
+over m n seed v = record { kernel = encode m; place = 16 * n; seed = seed; verdict = Some v }
 
 -- the same where the record is refused
-abbrev stopped : Machine → ℕ → ℕ → ℕ → ℕ → Run
+abbrev stopped : Machine → ℕ → ℕ → Refusal → ℕ → Run
 stopped m n seed c v = run_of (encode m) (refused (head_of (going m n seed)) c v)
 
 sixteenth : (n : ℕ) → 16 * n / 16 ≡ n
@@ -128,12 +128,12 @@ Tied f =
     → judged_behind m n seed back ≡ judged_from m n (seed_at (front ++ back) (16 * n) seed) (answers f (front ++ back) (16 * n))
 
 module _ (m : Machine) (n seed : ℕ) where
-  refused_behind : (c v : ℕ) (q : List ℕ) → ended (judge_of (bytes (record { run = stopped m n seed c v; begun = [] }) q))
-      ≡ record { seed = seed_shown c v seed; verdict = Malformed (record { code = c; number = n; place = 16 * n }) }
+  refused_behind : (c : Refusal) (v : ℕ) (q : List ℕ) → ended (judge_of (bytes (record { run = stopped m n seed c v; begun = [] }) q))
+      ≡ record { seed = seed_shown (refusals.number_of c) v seed; verdict = Malformed (record { refusal = c; number = n; place = 16 * n }) }
   refused_behind c v q = over_ends (stopped m n seed c v) q (refused_at c (16 * n)) refl ∙ rw (sixteenth n)
 
   cut_behind : (back : List ℕ) → 1 ≤ length back → length back ≤ 15 → judged_behind m n seed back
-      ≡ record { seed = seed; verdict = Malformed (record { code = 15; number = n; place = 16 * n }) }
+      ≡ record { seed = seed; verdict = Malformed (record { refusal = NoRecord; number = n; place = 16 * n }) }
   unfolding ended
   cut_behind back o k =
       let z : eqb (length back) 0 ≡ false = ne_eqb (length back) 0 (λ e. omega arith) in
@@ -141,7 +141,7 @@ module _ (m : Machine) (n seed : ℕ) where
 
 -- no byte is left
 end_behind : (m : Machine) (n seed : ℕ) → judged_behind m n seed []
-    ≡ record { seed = seed; verdict = cond (eqb n 0) (Malformed (record { code = 15; number = n; place = 16 * n })) (Agrees (n - 1)) }
+    ≡ record { seed = seed; verdict = cond (eqb n 0) (Malformed (record { refusal = NoRecord; number = n; place = 16 * n })) (Agrees (n - 1)) }
 unfolding ended bytes
 end_behind m zero seed = refl
 end_behind m (suc n) seed =
@@ -163,8 +163,8 @@ answered_is m s n seed r o =
     rw (stepped_tie m s (command_of r), b, sixteenth n) (one_of (encode (next m (command_of r))) (alike (kept_on r) (kept (answer m (command_of r)))) _ _)
 
 end_read : (m : Machine) (n seed v : ℕ) (t : Bool) (l : List Read)
-    → judged_from m n (seed_shown (number_of (cond t (Refused 15) End)) v seed) (cond t (Refused 15) End ∷ l)
-    ≡ record { seed = seed; verdict = cond t (Malformed (record { code = 15; number = n; place = 16 * n })) (Agrees (n - 1)) }
+    → judged_from m n (seed_shown (number_of (cond t (Err NoRecord) (Ok None))) v seed) (cond t (Err NoRecord) (Ok None) ∷ l)
+    ≡ record { seed = seed; verdict = cond t (Malformed (record { refusal = NoRecord; number = n; place = 16 * n })) (Agrees (n - 1)) }
 unfolding judged_from
 end_read m n seed v true l = refl
 end_read m n seed v false l = refl
@@ -229,8 +229,8 @@ module _ (f : ℕ) (ih : Tied f) (m : Machine) (snd : Sound m) (n seed : ℕ) (f
     command_behind r a false d = over_ends (over (next m a) n seed d) (drop 16 back) d refl
 
     found_behind : (r : Record)
-        → ended (judge_of (bytes (record { run = taken (going m n seed) (take 16 back) (Found r (16 * n + 16)); begun = [] }) (drop 16 back)))
-        ≡ judged_from m n seed (Found r (16 * n + 16) ∷ answers f (front ++ back) (16 * n + 16))
+        → ended (judge_of (bytes (record { run = taken (going m n seed) (take 16 back) (Ok (Some (r, 16 * n + 16))); begun = [] }) (drop 16 back)))
+        ≡ judged_from m n seed (Ok (Some (r, 16 * n + 16)) ∷ answers f (front ++ back) (16 * n + 16))
     unfolding taken judged_from
     found_behind r = rw (same_zero (16 * n) n refl) (go (eqb n 0) refl)
       where
@@ -254,8 +254,8 @@ module _ (f : ℕ) (ih : Tied f) (m : Machine) (snd : Sound m) (n seed : ℕ) (f
     unfolding taken judged_from
     turned (found w l z) = found_behind (record_of (take 16 (drop (16 * n) (front ++ back))))
     turned (end w l z) = absurd (omega (arith, long))
-    turned no_record = refused_behind m n seed 15 (record_of (take 16 back)).value (drop 16 back)
-    turned (no_seed z l) = refused_behind m n seed 17 (record_of (take 16 back)).value (drop 16 back)
+    turned no_record = refused_behind m n seed NoRecord (record_of (take 16 back)).value (drop 16 back)
+    turned (no_seed z l) = refused_behind m n seed Seed (record_of (take 16 back)).value (drop 16 back)
 
     onward_is : (p : List ℕ) → onward (going m n seed) p ≡ taken (going m n seed) p (judged (16 * n) p)
     unfolding onward

@@ -35,7 +35,7 @@ through x l = judge_of (bytes (record { run = x; begun = [] }) l)
 
 -- The end of the tape.
 unfoldable pub ended : Judge → Judgement
-ended j = record { seed = j.run.seed; verdict = at_end j.run.stage j.run.place j.count }
+ended j = record { seed = j.run.seed; verdict = at_end j.run.verdict j.run.place j.count }
 
 -- Pieces, one after another, to the end of the tape.
 unfoldable pub judged_in : Judge → List (List ℕ) → Judgement

@@ -61,11 +61,10 @@ pub(crate) fn records(
         clock,
         started,
     };
-    let stage = head.stage;
     Run {
         kernel,
         place: head.place,
         seed: head.seed,
-        stage,
+        verdict: head.verdict,
     }
 }

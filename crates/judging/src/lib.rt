@@ -17,7 +17,7 @@ mod in_place;
 pub use judge_pieces::Run;
 use judge_record::at_end;
 use judge_verdict::Head;
-pub use judge_verdict::{Command, Difference, Judgement, Kept, Refusal, Stage, Verdict};
+pub use judge_verdict::{Command, Difference, Judgement, Kept, RefusedAt, Verdict};
 pub use kernel::Kernel;
 use record::RECORD_BYTES;
 
@@ -44,11 +44,10 @@ fn records(run: Run, piece: &[u8]) -> Run
     let waiter = machine.waiter;
     let clock = machine.clock;
     let started = machine.started;
-    let stage = run.stage;
     let head = Head {
         place: run.place,
         seed: run.seed,
-        stage,
+        verdict: run.verdict,
     };
     in_place::records(
         base, ready, delayed, held, way, until, ceiling, waiter, clock, started, head, piece,
@@ -117,7 +116,7 @@ impl Judge {
             kernel,
             place: 0,
             seed: 0,
-            stage: Stage::Going,
+            verdict: None,
         };
         Judge {
             run,
@@ -150,26 +149,20 @@ impl Judge {
     // Whether a verdict is still to come. Behind it no piece changes anything (proofs/Whole, verdict_stays), so
     // nothing more need be read.
     pub fn goes_on(self) -> bool
-        ensures { result ≡ behind.to_come self.run.stage }
+        ensures { result ≡ behind.to_come self.run.verdict }
     {
-        let run = self.run;
-        let stage = run.stage;
-        match stage {
-            Stage::Going => true,
-            Stage::Over(_) => false,
-        }
+        self.run.verdict.is_none()
     }
 
     // The end of the tape.
+    #[tactic(auto, unfolding(crate::specs::Pieces::ended))]
     pub fn end(self) -> Judgement
         ensures { result ≡ pieces.ended self }
     {
         let run = self.run;
-        let stage = run.stage;
-        let verdict = at_end(stage, run.place, self.count);
         Judgement {
             seed: run.seed,
-            verdict,
+            verdict: at_end(run.verdict, run.place, self.count),
         }
     }
 }

@@ -16,7 +16,7 @@ silent j p = []
 
 -- Whether the judge still reads: no verdict is there.
 abbrev pub judge_wants : Judge → Bool
-judge_wants j = to_come j.run.stage
+judge_wants j = to_come j.run.verdict
 
 -- A whole run of judge: j is the judgement of pieces, none of them empty; and a read or a write failed, or as many
 -- bytes were taken as the report of j has.

@@ -9,7 +9,7 @@ ghost use Rattle.record.specs.Form.{header_fields, is_seed, in_command, command_
 ghost use Rattle.record.specs.Form.{header_of};
 ghost use Rattle.record.specs.Fault.{header_fault, command_fault, fault_of};
 
-use numbers::choose;
+use rules::Refusal;
 
 // The length of a record.
 pub const RECORD_BYTES: usize = 16;
@@ -27,7 +27,7 @@ const LAST_SEED: u64 = 4294967295;
 
 // A header or a command with its answer. Any values fit; which of them are a record, and where, the writer and the
 // reader judge.
-#[derive(Clone, Copy)]
+#[derive(Clone, Copy, PartialEq, Eq)]
 pub struct Record {
     pub op: u8,
     pub a: u8,
@@ -89,24 +89,31 @@ pub fn is_seed(v: u64) -> bool
     (1 <= v) & (v <= LAST_SEED)
 }
 
-fn header_fault(r: Record) -> u8
+fn header_fault(r: Record) -> Result<(), Refusal>
     ensures { result ≡ header_fault r }
 {
-    let head = header_fields(r);
-    let seed = is_seed(r.value);
-    choose(head, choose(seed, 0, 17), 15)
+    if !header_fields(r) {
+        return Err(Refusal::Record);
+    }
+    if !is_seed(r.value) {
+        return Err(Refusal::Seed);
+    }
+    Ok(())
 }
 
-fn command_fault(r: Record) -> u8
+fn command_fault(r: Record) -> Result<(), Refusal>
     ensures { result ≡ command_fault r }
 {
-    choose(command_fields(r), 0, 15)
+    if !command_fields(r) {
+        return Err(Refusal::Record);
+    }
+    Ok(())
 }
 
-// 0, 15 or 17 for fields at a place; reader and writer judge by it. It branches, where `choose` would judge each
-// record both ways: that took 1.7 times as long to read as C.
+// What fields at a place are refused with; reader and writer judge by it. It branches, where each record would be judged
+// both ways: that took 1.7 times as long to read as C.
 #[tactic(auto, unfolding(crate::specs::Fault::fault_of))]
-pub fn fault(at: usize, r: Record) -> u8
+pub fn fault(at: usize, r: Record) -> Result<(), Refusal>
     ensures { result ≡ fault_of at r }
 {
     if at == 0 {

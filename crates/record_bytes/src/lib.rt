@@ -7,62 +7,38 @@
 ghost use Rattle.std.specs.Prelude.{◌≡◌, get_or};
 ghost use Rattle.record.specs.Form.{le8, of_le, bytes_of, record_of, marked, is_header, is_command};
 
-use numbers::wide;
 use record::{Record, header_fields, in_command, is_seed};
+use std::array;
 
 // The byte at an index, 0 past the end: so that what is read of too few bytes is fixed too.
 fn byte(p: &[u8], i: usize) -> u8
     ensures { result ≡ get_or p.now i 0 }
 {
-    if i < p.len() { p[i] } else { 0 }
+    p.get(i).copied().unwrap_or(0)
 }
 
 // The number that 8 bytes hold, least first. (The image reads its numbers by it too.)
 pub fn number_of(b: [u8; 8]) -> u64
     ensures { result ≡ of_le b 0 }
 {
-    wide(b[0])
-        + 256 * wide(b[1])
-        + 65536 * wide(b[2])
-        + 16777216 * wide(b[3])
-        + 4294967296 * wide(b[4])
-        + 1099511627776 * wide(b[5])
-        + 281474976710656 * wide(b[6])
-        + 72057594037927936 * wide(b[7])
+    u64::from_le_bytes(b)
 }
 
 // A number's 8 bytes, least first. (The image writes its numbers by it too.)
 pub fn number_bytes(x: u64) -> [u8; 8]
     ensures { result ≡ le8 x }
 {
-    [
-        (x % 256) as u8,
-        (x / 256 % 256) as u8,
-        (x / 65536 % 256) as u8,
-        (x / 16777216 % 256) as u8,
-        (x / 4294967296 % 256) as u8,
-        (x / 1099511627776 % 256) as u8,
-        (x / 281474976710656 % 256) as u8,
-        (x / 72057594037927936 % 256) as u8,
-    ]
+    x.to_le_bytes()
 }
 
 fn value_of(p: &[u8]) -> u64
     ensures { result ≡ of_le p.now 8 }
 {
-    number_of([
-        byte(p, 8),
-        byte(p, 9),
-        byte(p, 10),
-        byte(p, 11),
-        byte(p, 12),
-        byte(p, 13),
-        byte(p, 14),
-        byte(p, 15),
-    ])
+    number_of(array::from_fn(|i| byte(p, 8 + i)))
 }
 
 // The fields that 16 bytes hold, as the part that a reader hands back; a byte that is not there counts as 0.
+#[tactic(auto, unfolding(record::specs::Form::record_of))]
 pub fn record_of(p: &[u8]) -> Record
     ensures { result ≡ record_of p.now }
 {
@@ -78,6 +54,7 @@ pub fn record_of(p: &[u8]) -> Record
 }
 
 // A record's 16 bytes, mark and all; any fields have some.
+#[tactic(auto, unfolding(record::specs::Form::bytes_of))]
 pub fn bytes_of(r: Record) -> [u8; 16]
     ensures { result ≡ bytes_of r }
 {
@@ -105,6 +82,7 @@ pub fn is_header(p: &[u8]) -> bool
 
 // 16 bytes are a command record, read byte by byte, the mark first. No `Record` is made and no value is read: so it is
 // small enough to stand inside a loop that asks it at each byte of a tape.
+#[tactic(auto, unfolding(record::specs::Form::record_of))]
 pub fn is_command(p: &[u8]) -> bool
     ensures { result ≡ is_command p.now }
 {

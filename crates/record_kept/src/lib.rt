@@ -6,7 +6,6 @@ ghost use Rattle.std.specs.Prelude.{◌≡◌};
 ghost use Rattle.record_kept.specs.Kept.{kept_of, kept_on, alike, packed};
 
 use kernel::{Answer, TaskID};
-use numbers::wide32;
 use record::Record;
 
 #[derive(Clone, Copy)]
@@ -17,41 +16,45 @@ pub struct Kept {
 }
 
 // What is kept of a step's answer.
-pub fn kept_of(a: Answer) -> Kept
-    ensures { result ≡ kept_of a }
-{
-    let running = a.running;
-    let released = a.released;
-    Kept {
-        code: a.code,
-        running,
-        released,
+impl From<Answer> for Kept {
+    ghost from_gives = { λ a k. k ≡ kept_of a };
+
+    fn from(a: Answer) -> Kept {
+        Kept {
+            code: a.code,
+            running: a.running,
+            released: a.released,
+        }
     }
 }
 
 // What a record has of it.
-pub fn kept_on(t: Record) -> Kept
-    ensures { result ≡ kept_on t }
-{
-    Kept {
-        code: t.code,
-        running: TaskID(t.running),
-        released: TaskID(t.released),
+impl From<Record> for Kept {
+    ghost from_gives = { λ r k. k ≡ kept_on r };
+
+    fn from(r: Record) -> Kept {
+        Kept {
+            code: r.code,
+            running: TaskID(r.running),
+            released: TaskID(r.released),
+        }
     }
 }
 
-// Whether two are the same.
-pub fn same(x: Kept, y: Kept) -> bool
-    ensures { result ≡ alike x y }
-{
-    (x.code == y.code) & (x.running.0 == y.running.0) & (x.released.0 == y.released.0)
-}
+impl Kept {
+    // Whether two are the same.
+    pub fn same(self, other: Kept) -> bool
+        ensures { result ≡ alike self other }
+    {
+        (self.code == other.code)
+            & (self.running.0 == other.running.0)
+            & (self.released.0 == other.released.0)
+    }
 
-// In one number: code + 256 * running + 65536 * released.
-pub fn pack(k: Kept) -> u32
-    ensures { result ≡ packed k }
-{
-    let running = k.running;
-    let released = k.released;
-    wide32(k.code) + 256 * wide32(running.0) + 65536 * wide32(released.0)
+    // In one number: code + 256 * running + 65536 * released.
+    pub fn pack(self) -> u32
+        ensures { result ≡ packed self }
+    {
+        u32::from(self.code) + 256 * u32::from(self.running.0) + 65536 * u32::from(self.released.0)
+    }
 }

@@ -15,7 +15,7 @@ ghost use Rattle.report.specs.Put.{Put};
 
 use decimal_print::put_decimal;
 use judge_record::place_of;
-use judge_verdict::{Command, Difference, Judgement, Kept, Refusal, Verdict};
+use judge_verdict::{Command, Difference, Judgement, Kept, RefusedAt, Verdict};
 use text_command::{takes_b, takes_value, writes_a};
 use text_print::put_text;
 
@@ -158,11 +158,11 @@ fn put_difference(out: &mut [u8], at: usize, d: Difference) -> usize
     put_answers(out, answers, d.tape, d.rules)
 }
 
-fn put_refusal(out: &mut [u8], at: usize, r: Refusal) -> usize
+fn put_refusal(out: &mut [u8], at: usize, r: RefusedAt) -> usize
     requires { at + 86 ≤ length out.old }
     ensures { Put 86 out.old at (verdict_text (Refused r)) out.new result }
 {
-    let number = put_small(out, at, b"refused ", r.code);
+    let number = put_small(out, at, b"refused ", r.refusal.number());
     put_where(out, number, r.number, r.place)
 }
 

@@ -9,6 +9,9 @@ use borrow.Author.Tests.{leb-true, le-leb, ne_eqb, ltb-true, ltb-false}
 use lib.Dec.{leb, ltb, eqb, lit<}
 use lib.ListN.{length, take, drop, get_or, replicate, length-append, length-take, length-drop, get_or-eq_default}
 use lib.Seq.{length-take-le, take_at, take-append-le, get_or-take, get_or-drop}
+use Rattle.std.specs.Prelude.{Result, Ok, Err}
+use Rattle.rules.specs.declared.Refusal.{Refusal}
+use Rattle.rules.specs.declared.Refusal.TheVariants.{Record as NoRecord, Seed}
 use Rattle.record.specs.declared.Record.{Record}
 use Rattle.record.specs.Form.{is_header, is_command, marked, record_of, bytes_of, header_fields, command_fields, is_seed, last_seed}
 use Rattle.record.specs.Fault.{fault_of}
@@ -22,24 +25,28 @@ use Rattle.salvage_marks.specs.Words.{Bytes, Whole}
 use Rattle.salvage_marks.proofs.Marks.{both_true, and_false, makes_long, makes_record, kept_keep, kept_drop}
 use Rattle.salvage_marks.proofs.Whole.{whole_joined}
 
+-- what a check of fields answers
+abbrev Checked : Type 0
+Checked = Result (Unit {0}) Refusal
+
 -- ---- a tape that the reader reads
 
 -- bytes with no fault at a place
-faultless : (at : ℕ) (p : List ℕ) → marked p ≡ true → fault_of at (record_of p) ≡ 0 → is_record (eqb at 0) p ≡ true
+faultless : (at : ℕ) (p : List ℕ) → marked p ≡ true → fault_of at (record_of p) ≡ Ok tt → is_record (eqb at 0) p ≡ true
 unfolding fault_of
 faultless at p = go (eqb at 0) (marked p) (command_fields (record_of p)) (header_fields (record_of p)) (is_seed (record_of p).value)
   where
-    go : (z m k h v : Bool) → m ≡ true → cond {A = ℕ} z (cond {A = ℕ} h (cond {A = ℕ} v 0 17) 15) (cond {A = ℕ} k 0 15) ≡ 0
+    go : (z m k h v : Bool) → m ≡ true → cond {A = Checked} z (cond h (cond v (Ok tt) (Err Seed)) (Err NoRecord)) (cond k (Ok tt) (Err NoRecord)) ≡ Ok tt
         → ((m && k) || (z && (m && h && v))) ≡ true
     go z false k h v e f = absurd (true≢false (sym e))
     go z true true h v e f = refl
     go true true false true true e f = refl
-    go true true false true false e f = absurd (omega arith)
-    go true true false false v e f = absurd (omega arith)
-    go false true false h v e f = absurd (omega arith)
+    go true true false true false e f = absurd cc
+    go true true false false v e f = absurd cc
+    go false true false h v e f = absurd cc
 
 -- a record that the writer takes at a place makes one there
-record_made : (at : ℕ) (r : Record) (x : List ℕ) → fault_of at r ≡ 0 → r.value < 18446744073709551616 → makes (eqb at 0) (bytes_of r ++ x) ≡ true
+record_made : (at : ℕ) (r : Record) (x : List ℕ) → fault_of at r ≡ Ok tt → r.value < 18446744073709551616 → makes (eqb at 0) (bytes_of r ++ x) ≡ true
 unfolding makes
 record_made at r x f small =
     let u = unfaulted at (bytes_of r) (own_fault at r small ∙ f) in
@@ -103,11 +110,11 @@ pub record Made (n at : ℕ) (l : List ℕ) : Type 0 where
   pub bytes : kept_on false l ≡ tape_of (found_on false zero l)
   pub taken : at + 16 * length (found_on false zero l) ≤ n → Takes n at (found_on false zero l)
 
-command_fault : (at : ℕ) (p : List ℕ) → (at ≡ 0 → ⊥) → is_record false p ≡ true → fault_of at (record_of p) ≡ 0
+command_fault : (at : ℕ) (p : List ℕ) → (at ≡ 0 → ⊥) → is_record false p ≡ true → fault_of at (record_of p) ≡ Ok tt
 unfolding fault_of
 command_fault at p z e = rw (ne_eqb at 0 z) (go (marked p) (command_fields (record_of p)) e)
   where
-    go : (m k : Bool) → ((m && k) || false) ≡ true → cond {A = ℕ} k 0 15 ≡ 0
+    go : (m k : Bool) → ((m && k) || false) ≡ true → cond {A = Checked} k (Ok tt) (Err NoRecord) ≡ Ok tt
     go true true e = refl
     go true false e = absurd (true≢false (sym e))
     go false k e = absurd (true≢false (sym e))
@@ -142,11 +149,11 @@ made : (k n at : ℕ) (l : List ℕ) → length l ≤ k → Bytes l → at % 16 
 made zero n at l o b w z = made_step n at l b w z (λ at' r h b' w' z'. absurd (omega arith))
 made (suc k) n at l o b w z = made_step n at l b w z (λ at' r h b' w' z'. made k n at' r (omega arith) b' w' z')
 
-header_fault : (p : List ℕ) → is_header p ≡ true → fault_of 0 (record_of p) ≡ 0
+header_fault : (p : List ℕ) → is_header p ≡ true → fault_of 0 (record_of p) ≡ Ok tt
 unfolding fault_of
 header_fault p = go (marked p) (header_fields (record_of p)) (is_seed (record_of p).value)
   where
-    go : (m h v : Bool) → (m && h && v) ≡ true → cond {A = ℕ} h (cond {A = ℕ} v 0 17) 15 ≡ 0
+    go : (m h v : Bool) → (m && h && v) ≡ true → cond {A = Checked} h (cond v (Ok tt) (Err Seed)) (Err NoRecord) ≡ Ok tt
     go true true true e = refl
     go true true false e = absurd (true≢false (sym e))
     go true false v e = absurd (true≢false (sym e))
@@ -217,17 +224,17 @@ reads_back s b e =
     rw (found_keep true s h.0, ← k) (run_answers n (r ∷ rs) [] 0 refl refl (omega arith) t)
 
 -- a header's value is a seed, and so a number of 64 bits
-seed_small : (h : Record) → fault_of 0 h ≡ 0 → h.value < 18446744073709551616
+seed_small : (h : Record) → fault_of 0 h ≡ Ok tt → h.value < 18446744073709551616
 unfolding fault_of
 seed_small h = go (header_fields h) (is_seed h.value) refl
   where
-    go : (a v : Bool) → is_seed h.value ≡ v → cond {A = ℕ} a (cond {A = ℕ} v 0 17) 15 ≡ 0 → h.value < 18446744073709551616
+    go : (a v : Bool) → is_seed h.value ≡ v → cond {A = Checked} a (cond v (Ok tt) (Err Seed)) (Err NoRecord) ≡ Ok tt → h.value < 18446744073709551616
     go true true e f = let o : h.value ≤ last_seed = leb-true h.value last_seed (both_true {x = leb 1 h.value} e).1 in omega arith
-    go true false e f = absurd (omega arith)
-    go false v e f = absurd (omega arith)
+    go true false e f = absurd cc
+    go false v e f = absurd cc
 
 -- Where none was, it is read so behind any header.
-pub reads_under : (s : List ℕ) → Bytes s → headed s ≡ false → (h : Record) → fault_of 0 h ≡ 0
+pub reads_under : (s : List ℕ) → Bytes s → headed s ≡ false → (h : Record) → fault_of 0 h ≡ Ok tt
     → answers (suc (suc (length (found s)))) (bytes_of h ++ kept s) 0 ≡ found_all 0 (h ∷ found s)
 unfolding found kept
 reads_under s b e h f =

@@ -11,6 +11,7 @@ use borrow.Author.Tests.{leb-true}
 use lib.ListN.{length, drop}
 use Rattle.rules.specs.Line.{joined}
 use Rattle.record.specs.Form.{bytes_of}
+use Rattle.std.specs.Prelude.{Ok}
 use Rattle.record.specs.Fault.{fault_of}
 use Rattle.record.specs.declared.Record.{Record}
 use Rattle.tape_form.specs.Run.{tape_of, Takes, answers, found_all}
@@ -104,7 +105,7 @@ pub reads_back : (s : List ℕ) → Bytes s → headed s ≡ true → answers (s
 reads_back s b e = reader.reads_back s b e
 
 -- Where none was kept, the new tape is a tape behind any header: the reader finds that header, then the kept records, each in turn, and then the end.
-pub reads_under : (s : List ℕ) → Bytes s → headed s ≡ false → (h : Record) → fault_of 0 h ≡ 0
+pub reads_under : (s : List ℕ) → Bytes s → headed s ≡ false → (h : Record) → fault_of 0 h ≡ Ok tt
     → answers (suc (suc (length (found s)))) (bytes_of h ++ kept s) 0 ≡ found_all 0 (h ∷ found s)
 reads_under s b e h f = reader.reads_under s b e h f
 

@@ -12,8 +12,9 @@ use types.Logic.{Logic}
 use contract.Monad.{Fun}
 use denote.Ref.{Bor}
 use Rattle.one_answer.proofs.Law.{OneAnswer, OneEnd, one, both, each_of_two, each_of_three}
+use Rattle.std.specs.Prelude.{Result}
+use Rattle.rules.specs.declared.Refusal.{Refusal}
 use Rattle.tape.specs.contracts.write_at
-use Rattle.tape.specs.contracts.number
 use Rattle.tape.specs.contracts.code_at
 use Rattle.tape.specs.contracts.next_at
 use Rattle.tape.specs.contracts.part_at
@@ -28,14 +29,11 @@ seen part = (part.now, part.ref_ptr.0, part.ref_ptr.1)
 module _ {M : Type 1} {𝓤 : Ura M} (𝓛 : Logic 𝓤) (mem : Memory → SProp 𝓤) (run : Routine → Fun 𝓤) where
   -- ---- the writer
 
-  -- the code and the buffer
-  pub write_at_single : OneEnd 𝓤 write_at.ended (write_at.clauses 𝓛 mem run) (ℕ × List ℕ) (λ κs r e. (r, e.0.now))
+  -- the answer and the buffer
+  pub write_at_single : OneEnd 𝓤 write_at.ended (write_at.clauses 𝓛 mem run) (Result Unit Refusal × List ℕ) (λ κs r e. (r, e.0.now))
   write_at_single κs a g r s d e = both 𝓤 _ _ _ each_of_two
 
   -- ---- the reader
-
-  pub number_single : OneAnswer 𝓤 number.ended (number.clauses 𝓛 mem run)
-  number_single κs a g r s d e = one 𝓤 _ _ _
 
   pub code_at_single : OneAnswer 𝓤 code_at.ended (code_at.clauses 𝓛 mem run)
   code_at_single κs a g r s d e = one 𝓤 _ _ _

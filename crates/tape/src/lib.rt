@@ -7,75 +7,44 @@
 // place: crate tape_read. The reader that holds its tape: crate tape_reader.)
 #![tactic(auto)]
 
-ghost use Rattle.std.specs.Prelude.{◌≡◌, ◌++◌, ◌≤◌, length, drop};
+ghost use Rattle.std.specs.Prelude.{◌≡◌};
 ghost use Rattle.tape_form.specs.Write.{Written};
-ghost use Rattle.tape_form.specs.Read.{number_of, size_of, code_at, next_at, PartAt};
+ghost use Rattle.tape_form.specs.Read.{code_at, next_at, PartAt};
 
 use record::RECORD_BYTES;
 pub use record::{Record, header};
 use record_bytes::bytes_of;
 pub use record_bytes::record_of;
+pub use rules::Refusal;
 use tape_checks::write_code;
 pub use tape_form::Read;
 pub use tape_read::{place, read_at};
 
-// ---- The writer
-
-fn put(out: &mut [u8], p: [u8; 16])
-    requires { 16 ≤ length out.old }
-    ensures { out.new ≡ p ++ drop 16 out.old }
-{
-    let mut i: usize = 0;
-    while i < RECORD_BYTES {
-        out[i] = p[i];
-        i += 1;
-    }
-}
-
 // Writes a record, the header at place 0 and a command record elsewhere, into the part of the buffer that follows the
-// last one. Answers 0, or 15, 17 or 16 with the buffer untouched.
-pub fn write_at(out: &mut [u8], at: usize, r: Record) -> u8
+// last one. A refusal, 15, 17 or 16, leaves the buffer as it was.
+#[tactic(auto, using(tape_form::proofs::Writing::accepted), unfolding(tape_form::specs::Write::write_of))]
+pub fn write_at(out: &mut [u8], at: usize, r: Record) -> Result<(), Refusal>
     ensures { Written out.old at r result out.new }
 {
-    let c = write_code(out.len(), at, r);
-    if c != 0 {
-        return c;
-    }
-    put(&mut out[at..], bytes_of(r));
-    0
-}
-
-// ---- The reader
-
-// Document 01's number of an answer: 0 for a record and for the end.
-pub fn number(r: Read) -> u8
-    ensures { result ≡ number_of r }
-{
-    match r {
-        Read::Found(_, _) => 0,
-        Read::End => 0,
-        Read::Refused(c) => c,
-    }
-}
-
-fn size(r: Read) -> usize
-    ensures { result ≡ size_of r }
-{
-    match r {
-        Read::Found(_, _) => RECORD_BYTES,
-        Read::End => 0,
-        Read::Refused(_) => 0,
-    }
+    write_code(out.len(), at, r)?;
+    let end = at + RECORD_BYTES;
+    out[at..end].copy_from_slice(&bytes_of(r));
+    Ok(())
 }
 
 // The number of what stands at a place: 0 for a record and for the end, 15, 17.
+#[tactic(auto, unfolding(tape_form::specs::Read::code_at))]
 pub fn code_at(tape: &[u8], at: usize) -> u8
     ensures { result ≡ code_at tape.now at }
 {
-    number(read_at(tape, at))
+    match read_at(tape, at) {
+        Ok(_) => 0,
+        Err(refusal) => refusal.number(),
+    }
 }
 
 // The place behind the record, or the same place where there is none.
+#[tactic(auto, unfolding(tape_form::specs::Read::next_at))]
 pub fn next_at(tape: &[u8], at: usize) -> usize
     ensures { result ≡ next_at tape.now at }
 {
@@ -84,13 +53,13 @@ pub fn next_at(tape: &[u8], at: usize) -> usize
 
 // The record's own 16 bytes of the tape, no copy; an empty part where there is none. The contract gives the contents
 // and where the part lies.
+#[tactic(auto, using(tape_form::proofs::Reading::found_at), unfolding(tape_form::specs::Read::part_at, tape_form::specs::Read::start_at))]
 pub fn part_at(tape: &[u8], at: usize) -> &[u8]
     ensures { PartAt tape.entry at result }
 {
-    let n = size(read_at(tape, at));
-    if n == 0 {
-        return &tape[0..0];
+    match read_at(tape, at) {
+        Ok(Some((_, next))) => &tape[at..next],
+        Ok(None) => &tape[0..0],
+        Err(_) => &tape[0..0],
     }
-    let end = at + n;
-    &tape[at..end]
 }

@@ -1,18 +1,16 @@
 -- What the timed loops do: a pass over a tape record by record, and a buffer filled record by record. Assumes nothing.
-use Rattle.std.specs.Prelude.{ℕ, zero, suc, ◌+◌, ◌*◌, List}
+use Rattle.std.specs.Prelude.{ℕ, zero, suc, ◌+◌, ◌*◌, List, Some, None, Ok, Err}
 use Rattle.std.specs.Int.Bits.{bit_xor}
 use Rattle.record.specs.declared.Record.{Record}
-use Rattle.tape_form.specs.declared.Read.{Read}
-use Rattle.tape_form.specs.declared.Read.TheVariants.{Found, End, Refused}
-use Rattle.tape_form.specs.Read.{read_of, place_of}
+use Rattle.tape_form.specs.Read.{Read, read_of, place_of}
 use Rattle.tape_form.specs.Write.{write_of}
 use Rattle.tape_bench.specs.declared.Pass.{Pass}
 
 -- the value of the record that an answer found, else 0
 abbrev pub value_of : Read → ℕ
-value_of (Found r next) = r.value
-value_of End = 0
-value_of (Refused c) = 0
+value_of (Ok (Some x)) = x.0.value
+value_of (Ok None) = 0
+value_of (Err e) = 0
 
 -- a turn of the reading loop: the place behind the record, and its value taken into the sum
 abbrev pub turn_of : Pass → Read → Pass

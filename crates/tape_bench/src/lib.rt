@@ -19,9 +19,9 @@ fn value_in(r: Read) -> u64
     ensures { result ≡ value_of r }
 {
     match r {
-        Read::Found(found, _) => found.value,
-        Read::End => 0,
-        Read::Refused(_) => 0,
+        Ok(Some((found, _))) => found.value,
+        Ok(None) => 0,
+        Err(_) => 0,
     }
 }
 
@@ -41,11 +41,9 @@ pub extern "C" fn tape_bench_read(tape: &[u8], records: u32) -> u64
     ensures { result ≡ (passed tape.now records).sum }
 {
     let mut p = Pass { at: 0, sum: 0 };
-    let mut i: u32 = 0;
-    while i < records {
+    for _i in 0..records {
         let at = p.at;
         p = turn(p, tape::read_at(tape, at));
-        i += 1;
     }
     p.sum
 }
@@ -60,18 +58,16 @@ fn ticks_of(i: u32) -> Record
         code: 0,
         running: 7,
         released: 0,
-        value: i as u64,
+        value: u64::from(i),
     }
 }
 
 fn fill(out: &mut [u8], records: u32)
     ensures { out.new ≡ filled out.old records }
 {
-    let mut i: u32 = 0;
     let mut at: usize = 16;
-    while i < records {
-        tape::write_at(out, at, ticks_of(i));
-        i += 1;
+    for i in 0..records {
+        let _ = tape::write_at(out, at, ticks_of(i));
         at += 16;
     }
 }
@@ -81,6 +77,6 @@ fn fill(out: &mut [u8], records: u32)
 pub extern "C" fn tape_bench_write(out: &mut [u8], records: u32)
     ensures { out.new ≡ filled (write_of out.old 0 (header_of 1 1)) records }
 {
-    tape::write_at(out, 0, tape::header(1, 1));
+    let _ = tape::write_at(out, 0, tape::header(1, 1));
     fill(out, records)
 }

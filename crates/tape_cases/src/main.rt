@@ -5,27 +5,15 @@
 
 ghost use Rattle.std.specs.Prelude.{◌-◌, ◌≤◌, ◌<◌, IfOk, length};
 
+use rules::{Refusal, code};
 use std::fs::File;
-use std::io;
 use std::io::Read as _;
 use std::rt::Files;
-use tape::{Read, Record};
+use std::{array, io};
+use tape::Record;
 
 // Bytes before a case's tape: kind, length, six fields, value, place.
 const HEAD: usize = 24;
-
-fn text(rt: &impl Print, s: &str) -> io::Result<()> {
-    rt.print(s)
-}
-
-fn decimal(rt: &impl Print, n: u64) -> io::Result<()> {
-    rt.print(n)
-}
-
-fn field(rt: &impl Print, n: u8) -> io::Result<()> {
-    text(rt, " ")?;
-    decimal(rt, n as u64)
-}
 
 fn hex(rt: &impl Print, p: &[u8]) -> io::Result<()> {
     for b in p {
@@ -35,125 +23,84 @@ fn hex(rt: &impl Print, p: &[u8]) -> io::Result<()> {
 }
 
 fn byte(d: &[u8], i: usize) -> u8 {
-    if i < d.len() { d[i] } else { 0 }
+    d.get(i).copied().unwrap_or(0)
 }
 
-// The number in the first 8 bytes, least first.
-fn number(d: &[u8]) -> u64 {
-    let mut x: u64 = 0;
-    let mut i: usize = 8;
-    while i > 0 {
-        i -= 1;
-        x = x % 72057594037927936 * 256 + byte(d, i) as u64;
-    }
-    x
+// The number in the 8 bytes from an index on, least first.
+fn number(d: &[u8], from: usize) -> u64
+    requires { from ≤ 16 }
+{
+    u64::from_le_bytes(array::from_fn(|i| byte(d, from + i)))
 }
 
 fn show_record(rt: &impl Print, r: Record) -> io::Result<()> {
-    field(rt, r.op)?;
-    field(rt, r.a)?;
-    field(rt, r.b)?;
-    field(rt, r.code)?;
-    field(rt, r.running)?;
-    field(rt, r.released)?;
-    text(rt, " ")?;
-    decimal(rt, r.value)
+    print!(rt; " {} {} {}", r.op, r.a, r.b)?;
+    print!(rt; " {} {} {} {}", r.code, r.running, r.released, r.value)
 }
 
-fn show(rt: &impl Print, read: Read) -> io::Result<()> {
+fn show(rt: &impl Print, read: Result<Option<Record>, Refusal>) -> io::Result<()> {
     match read {
-        Read::Found(r, _) => {
-            text(rt, "record")?;
+        Ok(Some(r)) => {
+            print!(rt; "record")?;
             show_record(rt, r)
         }
-        Read::End => text(rt, "end"),
-        Read::Refused(c) => {
-            text(rt, "refused")?;
-            field(rt, c)
-        }
+        Ok(None) => print!(rt; "end"),
+        Err(refusal) => print!(rt; "refused {}", refusal.number()),
     }
 }
 
-// Writes what a reader answers at a place: place, answer, number, part, next place. Answers the next place.
-fn answer(rt: &impl Print, tape: &[u8], at: usize) -> io::Result<usize> {
-    decimal(rt, at as u64)?;
-    text(rt, ": ")?;
-    show(rt, tape::read_at(tape, at))?;
-    text(rt, ", code")?;
-    field(rt, tape::code_at(tape, at))?;
-    text(rt, ", part ")?;
+// Writes what a reader answers at a place: place, answer, number, part, next place.
+fn answer(rt: &impl Print, tape: &[u8], at: usize) -> io::Result<()> {
+    print!(rt; "{at}: ")?;
+    show(
+        rt,
+        tape::read_at(tape, at).map(|found| found.map(|(r, _)| r)),
+    )?;
+    print!(rt; ", code {}, part ", tape::code_at(tape, at))?;
     hex(rt, tape::part_at(tape, at))?;
-    text(rt, ", next ")?;
-    let next = tape::next_at(tape, at);
-    decimal(rt, next as u64)?;
-    text(rt, "\n")?;
-    Ok(next)
+    println!(rt; ", next {}", tape::next_at(tape, at))
 }
 
-// What a reader hands back at a place, from the part and its code alone.
-fn show_part(rt: &impl Print, part: &[u8], code: u8) -> io::Result<()> {
-    if code != 0 {
-        return show(rt, Read::Refused(code));
+// The record that a part holds: none where it is empty.
+fn held(part: &[u8]) -> Option<Record> {
+    if part.is_empty() {
+        return None;
     }
-    if part.len() == 0 {
-        return show(rt, Read::End);
-    }
-    text(rt, "record")?;
-    show_record(rt, tape::record_of(part))
+    Some(tape::record_of(part))
 }
 
-// Writes what a reader has answered: its place, its part and the code, its next place. Answers how many turns are left:
-// none where the place was kept.
-fn told(
-    rt: &impl Print,
-    at: usize,
-    part: &[u8],
-    code: u8,
-    next: usize,
-    left: u32,
-) -> io::Result<u32>
-    ensures { IfOk result (λ n. n ≤ left - 1) }
-{
-    decimal(rt, at as u64)?;
-    text(rt, ": ")?;
-    show_part(rt, part, code)?;
-    text(rt, ", code")?;
-    field(rt, code)?;
-    text(rt, ", part ")?;
-    hex(rt, part)?;
-    text(rt, ", next ")?;
-    decimal(rt, next as u64)?;
-    text(rt, "\n")?;
-    if next == at {
-        return Ok(0);
-    }
-    Ok(if left == 0 { 0 } else { left - 1 })
+// Writes what a reader has answered, from that alone: its place, its part and the number, its next place.
+fn told(rt: &impl Print, at: usize, handed: Result<&[u8], Refusal>, next: usize) -> io::Result<()> {
+    print!(rt; "{at}: ")?;
+    show(rt, handed.map(|part| held(part)))?;
+    print!(rt; ", code {}, part ", code(handed.map(|_| ())))?;
+    hex(rt, handed.unwrap_or(&[]))?;
+    println!(rt; ", next {next}")
 }
 
 // A whole tape by one reader, from its opening until its place is kept.
 fn tape_case(rt: &impl Print, tape: &[u8]) -> io::Result<()> {
     let mut r = tape_reader::open(tape);
-    let mut left: u32 = 101;
-    while 0 < left {
+    for _ in 0..101u8 {
         let at = r.at;
-        let p = tape_reader::next(&mut r);
-        left = told(rt, at, p.bytes, p.code, r.at, left)?;
+        let handed = tape_reader::next(&mut r);
+        told(rt, at, handed, r.at)?;
+        if r.at == at {
+            break;
+        }
     }
     Ok(())
 }
 
 // A record into a buffer: the code, the buffer after it, and what a reader then answers there.
 fn write_into(rt: &impl Print, out: &mut [u8], at: usize, r: Record) -> io::Result<()> {
-    let c = tape::write_at(out, at, r);
-    text(rt, "write")?;
+    let checked = tape::write_at(out, at, r);
+    print!(rt; "write")?;
     show_record(rt, r)?;
-    text(rt, ", code")?;
-    field(rt, c)?;
-    text(rt, ", buffer ")?;
+    print!(rt; ", code {}, buffer ", code(checked))?;
     hex(rt, out)?;
-    text(rt, "\n")?;
-    answer(rt, out, at)?;
-    Ok(())
+    println!(rt)?;
+    answer(rt, out, at)
 }
 
 // The buffer holds bytes 170 before.
@@ -165,28 +112,6 @@ fn write_case(rt: &impl Print, n: usize, at: usize, r: Record) -> io::Result<()>
     Ok(())
 }
 
-// One case. Answers how many bytes it took: all where they are too few for a case.
-fn one_case(rt: &impl Print, d: &[u8]) -> io::Result<usize>
-    requires { 0 < length d.now }
-    ensures { IfOk result (λ n. (0 < n) × (n ≤ length d.now)) }
-{
-    let n = byte(d, 1) as usize;
-    let end = HEAD + n;
-    if d.len() < end {
-        return Ok(d.len());
-    }
-    let at = number(&d[16..24]) as usize;
-    let kind = byte(d, 0);
-    match kind {
-        b'T' => tape_case(rt, &d[HEAD..end])?,
-        b'R' => {
-            answer(rt, &d[HEAD..end], at)?;
-        }
-        _ => write_case(rt, n, at, record(d))?,
-    }
-    Ok(end)
-}
-
 fn record(d: &[u8]) -> Record {
     Record {
         op: byte(d, 2),
@@ -195,15 +120,27 @@ fn record(d: &[u8]) -> Record {
         code: byte(d, 5),
         running: byte(d, 6),
         released: byte(d, 7),
-        value: value(d),
+        value: number(d, 8),
     }
 }
 
-fn value(d: &[u8]) -> u64 {
-    if d.len() < 16 {
-        return 0;
+// One case. Answers how many bytes it took: all where they are too few for a case.
+fn one_case(rt: &impl Print, d: &[u8]) -> io::Result<usize>
+    requires { 0 < length d.now }
+    ensures { IfOk result (λ n. (0 < n) × (n ≤ length d.now)) }
+{
+    let n = usize::from(byte(d, 1));
+    let end = HEAD + n;
+    if d.len() < end {
+        return Ok(d.len());
     }
-    number(&d[8..16])
+    let at = number(d, 16) as usize;
+    match byte(d, 0) {
+        b'T' => tape_case(rt, &d[HEAD..end])?,
+        b'R' => answer(rt, &d[HEAD..end], at)?,
+        _ => write_case(rt, n, at, record(d))?,
+    }
+    Ok(end)
 }
 
 fn all(rt: &impl Print, cases: &[u8]) -> io::Result<()> {

@@ -11,18 +11,18 @@ use Prim.Native.Nat.{ℕ, ◌+◌, ◌≤◌}
 use native.Mathlib.Omega.{arith}
 use lib.ListN.{length, take, drop, length-drop}
 use lib.Seq.{length-take-le}
+use Rattle.std.specs.Prelude.{Some, None, Ok, Err}
+use Rattle.rules.specs.declared.Refusal.TheVariants.{Record as NoRecord, Seed}
 use Rattle.record.specs.declared.Record.{Record}
-use Rattle.tape_form.specs.Read.{read_of, size_of, start_of, place_of, part_at, start_at, next_at}
-use Rattle.tape_form.specs.declared.Read.{Read}
-use Rattle.tape_form.specs.declared.Read.TheVariants.{Found, End, Refused}
+use Rattle.tape_form.specs.Read.{Read, read_of, size_of, start_of, place_of, part_at, start_at, next_at}
 use Rattle.tape_form.proofs.Reading.{Stands, stands, found, end, no_record, no_seed}
 
 -- the four answers
 pub data OneOfFour : Read → Type 0 where
-  a_record : (r : Record) (next : ℕ) → OneOfFour (Found r next)
-  the_end : OneOfFour End
-  fifteen : OneOfFour (Refused 15)
-  seventeen : OneOfFour (Refused 17)
+  a_record : (r : Record) (next : ℕ) → OneOfFour (Ok (Some (r, next)))
+  the_end : OneOfFour (Ok None)
+  fifteen : OneOfFour (Err NoRecord)
+  seventeen : OneOfFour (Err Seed)
 
 -- Every place of every byte string gets one of the four.
 pub one_of_four : (s : List ℕ) (at : ℕ) → OneOfFour (read_of s at)

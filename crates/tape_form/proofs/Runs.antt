@@ -13,14 +13,13 @@ use native.Mathlib.Omega.{arith}
 use lib.ListN.{length, take, drop, get_or, length-append, take-append-drop, drop_of_length-le}
 use lib.Seq.{take_at, drop-drop, drop-length}
 use borrow.Author.Tests.{ne_eqb}
+use Rattle.std.specs.Prelude.{Some, None, Ok}
 use Rattle.record.specs.Form.{bytes_of}
 use Rattle.record.specs.declared.Record.{Record}
 use Rattle.record.proofs.RoundTrip.{sixteen_long}
 use Rattle.tape_form.specs.Write.{write_code, write_of}
-use Rattle.tape_form.specs.Read.{end_of, read_of, place_of, next_at}
+use Rattle.tape_form.specs.Read.{Read, end_of, read_of, place_of, next_at}
 use Rattle.tape_form.specs.Run.{tape_of, write_run, Takes, answers, found_all}
-use Rattle.tape_form.specs.declared.Read.{Read}
-use Rattle.tape_form.specs.declared.Read.TheVariants.{Found, End}
 use Rattle.tape_form.proofs.Writing.{accepted}
 use Rattle.tape_form.proofs.Reading.{read_end, Stands, stands, found, end, no_record, no_seed}
 use Rattle.tape_form.proofs.RoundTrip.{found_there, spilled, before, later, length_kept, is_there}
@@ -33,7 +32,7 @@ tape_long (r ∷ rs) = length-append (bytes_of r) (tape_of rs) ∙ omega (arith,
 -- ---- Written, then read
 
 -- a place and the record that an accepted write put there
-up_to : (s : List ℕ) (at : ℕ) (r : Record) → write_code (length s) at r ≡ 0 → take (at + 16) (write_of s at r) ≡ take at s ++ bytes_of r
+up_to : (s : List ℕ) (at : ℕ) (r : Record) → write_code (length s) at r ≡ Ok tt → take (at + 16) (write_of s at r) ≡ take at s ++ bytes_of r
 up_to s at r e =
     rw (spilled s at r e, ← append_assoc (take at s) (bytes_of r) (drop (at + 16) s))
     (take_at (take at s ++ bytes_of r) (drop (at + 16) s) (at + 16) (length-append (take at s) (bytes_of r) ∙ omega (arith, before s at r e, sixteen_long r)))
@@ -51,11 +50,11 @@ run_spilled (r ∷ rs) s at t =
     ∙ rw (up_to s at r t.0, rest, append_assoc (take at s) (bytes_of r), append_assoc (bytes_of r) (tape_of rs))
 
 -- the end of a tape that is not empty
-pub end_there : (s : List ℕ) (at : ℕ) → at % 16 ≡ 0 → at ≡ length s → 0 < at → read_of s at ≡ End
+pub end_there : (s : List ℕ) (at : ℕ) → at % 16 ≡ 0 → at ≡ length s → 0 < at → read_of s at ≡ Ok None
 unfolding end_of
 end_there s at w e h = let n : length s ≡ 0 → ⊥ = λ z. omega arith in sym (read_end s at w (omega arith) e) ∙ rw (ne_eqb (length s) 0 n)
 
-next_is : (s : List ℕ) (at : ℕ) (r : Record) (n : ℕ) → read_of s at ≡ Found r n → next_at s at ≡ n
+next_is : (s : List ℕ) (at : ℕ) (r : Record) (n : ℕ) → read_of s at ≡ Ok (Some (r, n)) → next_at s at ≡ n
 unfolding next_at
 next_is s at r n e = ap (place_of at) e
 
@@ -66,10 +65,10 @@ run_answers n [] p at l w h t = ap (λ (x : Read). x ∷ []) (end_there (p ++ []
 run_answers n (r ∷ rs) p at l w h t =
     let a = accepted n at r t.0 in
     let s : List ℕ = p ++ (bytes_of r ++ tape_of rs) in
-    let e : read_of s at ≡ Found r (at + 16) = found_there p (tape_of rs) at r l w a.fields t.1 in
+    let e : read_of s at ≡ Ok (Some (r, at + 16)) = found_there p (tape_of rs) at r l w a.fields t.1 in
     let long : length (p ++ bytes_of r) ≡ at + 16 = length-append p (bytes_of r) ∙ omega (arith, sixteen_long r) in
     rw (e, next_is s at r (at + 16) e, ← append_assoc p (bytes_of r) (tape_of rs))
-    (ap (λ (x : List Read). Found r (at + 16) ∷ x) (run_answers n rs (p ++ bytes_of r) (at + 16) long (omega arith) (omega arith) t.2))
+    (ap (λ (x : List Read). Ok (Some (r, at + 16)) ∷ x) (run_answers n rs (p ++ bytes_of r) (at + 16) long (omega arith) (omega arith) t.2))
 
 -- the front of a buffer after a run from place 0 on is the run's tape
 pub run_front : (rs : List Record) (s : List ℕ) → Takes (length s) 0 rs → take (16 * length rs) (write_run s 0 rs) ≡ tape_of rs
@@ -85,14 +84,14 @@ run_read s r rs t =
 -- ---- Read, then written
 
 -- the end is answered at the end of a tape, and only of one that has a byte
-pub end_place : (s : List ℕ) (at : ℕ) → read_of s at ≡ End → (at ≡ length s) × (0 < length s)
+pub end_place : (s : List ℕ) (at : ℕ) → read_of s at ≡ Ok None → (at ≡ length s) × (0 < length s)
 end_place s at = go (stands s at)
   where
-    go : {x : Read} → Stands s at x → x ≡ End → (at ≡ length s) × (0 < length s)
-    go (found w l f) e = let z : ◌≡◌ {A = ℕ} 0 1 = cc in absurd (omega arith)
+    go : {x : Read} → Stands s at x → x ≡ Ok None → (at ≡ length s) × (0 < length s)
+    go (found w l f) e = absurd cc
     go (end w l f) e = (l, f)
-    go no_record e = let z : ◌≡◌ {A = ℕ} 0 1 = cc in absurd (omega arith)
-    go (no_seed a l) e = let z : ◌≡◌ {A = ℕ} 0 1 = cc in absurd (omega arith)
+    go no_record e = absurd cc
+    go (no_seed a l) e = absurd cc
 
 first : {x y : Read} {l m : List Read} → x ∷ l ≡ y ∷ m → x ≡ y
 first e = cc

@@ -1,52 +1,59 @@
--- The tape reader of document 01: its checks in their order, and what it hands back. Assumes nothing.
+-- The tape reader of document 01: its checks in their order, and what it hands back. (15 is the refusal Record, 17 Seed.)
+-- Assumes nothing.
 use Rattle.std.specs.Prelude.{ℕ, ◌+◌, ◌%◌, ◌≡◌, List, cond, not, length, take, drop, ltb, eqb}
+use Rattle.std.specs.Prelude.{Option, Some, None, Result, Ok, Err}
 use Rattle.std.specs.Borrow.{Bor}
+use Rattle.rules.specs.declared.Refusal.{Refusal}
+use Rattle.rules.specs.declared.Refusal.TheVariants.{Record as NoRecord, Seed}
+use Rattle.rules.specs.Numbers as refusals
+use Rattle.record.specs.declared.Record.{Record}
 use Rattle.record.specs.Form.{record_of, is_header, is_bad_header, is_command}
-use Rattle.tape_form.specs.declared.Read.{Read}
-use Rattle.tape_form.specs.declared.Read.TheVariants.{Found, End, Refused}
+
+-- what stands at a place: a record, and the place behind it; the end; or a refusal
+abbrev pub Read : Type 0
+Read = Result (Option (Record × ℕ)) Refusal
 
 -- 16 bytes at a place: at place 0 a header, else 15, and 17 for its value; elsewhere a command record, else 15
 unfoldable pub judged : ℕ → List ℕ → Read
 judged at p =
-    cond (eqb at 0) (cond (is_header p) (Found (record_of p) (at + 16)) (cond (is_bad_header p) (Refused 17) (Refused 15)))
-    (cond (is_command p) (Found (record_of p) (at + 16)) (Refused 15))
+    cond (eqb at 0) (cond (is_header p) (Ok (Some (record_of p, at + 16))) (cond (is_bad_header p) (Err Seed) (Err NoRecord)))
+    (cond (is_command p) (Ok (Some (record_of p, at + 16))) (Err NoRecord))
 
 -- at the end: a tape of length 0 has no header and is 15
 unfoldable pub end_of : ℕ → Read
-end_of n = cond (eqb n 0) (Refused 15) End
+end_of n = cond (eqb n 0) (Err NoRecord) (Ok None)
 
 -- The reader's checks, in their order: a place that is no multiple of 16, past the end, at the end, fewer than 16
 -- bytes left, the 16 bytes.
 unfoldable pub read_of : List ℕ → ℕ → Read
 read_of s at =
-    cond (not (eqb (at % 16) 0)) (Refused 15)
-    (cond (ltb (length s) at) (Refused 15)
+    cond (not (eqb (at % 16) 0)) (Err NoRecord)
+    (cond (ltb (length s) at) (Err NoRecord)
     (cond (eqb at (length s)) (end_of (length s))
-    (cond (ltb (length s) (at + 16)) (Refused 15) (judged at (take 16 (drop at s))))))
+    (cond (ltb (length s) (at + 16)) (Err NoRecord) (judged at (take 16 (drop at s))))))
 
 -- document 01's number for an answer: 0 for a record and for the end
 abbrev pub number_of : Read → ℕ
-number_of (Found r next) = 0
-number_of End = 0
-number_of (Refused c) = c
+number_of (Ok x) = 0
+number_of (Err e) = refusals.number_of e
 
 -- how many bytes an answer hands back: a record's own 16, else none
 abbrev pub size_of : Read → ℕ
-size_of (Found r next) = 16
-size_of End = 0
-size_of (Refused c) = 0
+size_of (Ok (Some x)) = 16
+size_of (Ok None) = 0
+size_of (Err e) = 0
 
 -- the place after an answer: behind the record, else kept
 abbrev pub place_of : ℕ → Read → ℕ
-place_of at (Found r next) = next
-place_of at End = at
-place_of at (Refused c) = at
+place_of at (Ok (Some x)) = x.1
+place_of at (Ok None) = at
+place_of at (Err e) = at
 
 -- where an answer's part starts on the tape: at the place; an empty part counts from the tape's start
 abbrev pub start_of : ℕ → Read → ℕ
-start_of at (Found r next) = at
-start_of at End = 0
-start_of at (Refused c) = 0
+start_of at (Ok (Some x)) = at
+start_of at (Ok None) = 0
+start_of at (Err e) = 0
 
 -- What a reader at a place hands back: its number, its part of the tape, where that part starts, and the next place.
 unfoldable pub code_at : List ℕ → ℕ → ℕ

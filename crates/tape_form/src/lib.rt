@@ -3,14 +3,8 @@
 #![tactic(auto)]
 
 pub use record::Record;
+use rules::Refusal;
 
-// What stands at a place of a tape.
-#[derive(Clone, Copy)]
-pub enum Read {
-    // a record, and the place behind it
-    Found(Record, usize),
-    // the end, at a whole record
-    End,
-    // 15 or 17
-    Refused(u8),
-}
+// What stands at a place of a tape: a record, and the place behind it; None for the end, at a whole record; or the
+// refusal, Record (15) or Seed (17).
+pub type Read = Result<Option<(Record, usize)>, Refusal>;

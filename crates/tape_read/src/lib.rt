@@ -4,45 +4,51 @@
 ghost use Rattle.std.specs.Prelude.{◌≡◌, ◌+◌, ◌<◌, ◌^◌};
 ghost use Rattle.tape_form.specs.Read.{judged, end_of, read_of, place_of};
 
-use numbers::choose;
 use record::{RECORD_BYTES, fault};
 use record_bytes::{is_marked, record_of};
+use rules::Refusal;
 pub use tape_form::Read;
 
+#[tactic(auto, using(tape_form::proofs::Reading::judged_fault))]
 fn judge(p: &[u8], at: usize) -> Read
     requires { at + 16 < 2 ^ 64 }
     ensures { result ≡ judged at p.now }
 {
-    let r = record_of(p);
-    let c = choose(is_marked(p), fault(at, r), 15);
-    if c != 0 {
-        return Read::Refused(c);
+    if !is_marked(p) {
+        return Err(Refusal::Record);
     }
-    Read::Found(r, at + RECORD_BYTES)
+    let r = record_of(p);
+    fault(at, r)?;
+    Ok(Some((r, at + RECORD_BYTES)))
 }
 
+#[tactic(auto, unfolding(tape_form::specs::Read::end_of))]
 fn at_end(n: usize) -> Read
     ensures { result ≡ end_of n }
 {
-    if n == 0 { Read::Refused(15) } else { Read::End }
+    if n == 0 {
+        return Err(Refusal::Record);
+    }
+    Ok(None)
 }
 
 // The record at a place, the end, or the refusal.
+#[tactic(auto, unfolding(tape_form::specs::Read::read_of))]
 pub fn read_at(tape: &[u8], at: usize) -> Read
     ensures { result ≡ read_of tape.now at }
 {
     let n = tape.len();
     if at % RECORD_BYTES != 0 {
-        return Read::Refused(15);
+        return Err(Refusal::Record);
     }
     if n < at {
-        return Read::Refused(15);
+        return Err(Refusal::Record);
     }
     if at == n {
         return at_end(n);
     }
     if n - at < RECORD_BYTES {
-        return Read::Refused(15);
+        return Err(Refusal::Record);
     }
     let next = at + RECORD_BYTES;
     judge(&tape[at..next], at)
@@ -53,8 +59,8 @@ pub fn place(at: usize, r: Read) -> usize
     ensures { result ≡ place_of at r }
 {
     match r {
-        Read::Found(_, next) => next,
-        Read::End => at,
-        Read::Refused(_) => at,
+        Ok(Some((_, next))) => next,
+        Ok(None) => at,
+        Err(_) => at,
     }
 }

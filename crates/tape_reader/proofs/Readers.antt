@@ -8,13 +8,36 @@ use mathlib.Core.List.{List, [], ◌∷◌, map}
 use lib.ListN.{length, take, drop, length-drop}
 use lib.Seq.{length-take-le}
 use denote.Ref.{Bor}
-use Rattle.tape_form.specs.Read.{size_of, place_of, number_of, code_at, part_at, next_at, PartAt}
-use Rattle.tape_reader.specs.Reader.{Opened, Next}
+use Rattle.std.specs.Prelude.{Result, Ok, Err, IsOk}
+use Rattle.rules.specs.declared.Refusal.{Refusal}
+use Rattle.rules.specs.Numbers as refusals
+use Rattle.tape_form.specs.Read.{Read, read_of, size_of, place_of, number_of, code_at, part_at, next_at}
+use Rattle.tape_reader.specs.Reader.{Opened, Handed, Next}
 use Rattle.tape_form.specs.Run.{answers}
-use Rattle.tape_reader.specs.declared.Part.{Part}
 use Rattle.tape_reader.specs.declared.Reader.{Reader}
-use Rattle.tape_form.specs.declared.Read.{Read}
 use Rattle.tape_form.proofs.Reading.{Stands, stands, found, end, no_record, no_seed}
+
+-- what a reader hands back, and the bytes and the number of it
+abbrev pub Part : Type 0
+Part = Result (Bor (List ℕ)) Refusal
+
+abbrev pub bytes_in : Part → List ℕ
+bytes_in (Ok part) = part.now
+bytes_in (Err e) = []
+
+abbrev pub number_in : Part → ℕ
+number_in (Ok part) = 0
+number_in (Err e) = refusals.number_of e
+
+-- they are the part and the number of what stands there
+pub handed_part : (tape : Bor (List ℕ)) (at : ℕ) (p : Part) → Handed tape at p → (bytes_in p ≡ part_at tape.now at) × (number_in p ≡ code_at tape.now at)
+unfolding part_at code_at
+handed_part tape at (Ok part) h = (h.1.0, go (read_of tape.now at) h.0)
+  where
+    go : (x : Read) → IsOk x → 0 ≡ number_of x
+    go (Ok x) i = refl
+    go (Err e) i = absurd cc
+handed_part tape at (Err e) h = rw h (refl, refl)
 
 -- A reader that is asked again and again: the parts that it hands back, and the reader behind them.
 pub data Reads : Reader → List Part → Reader → Type 0 where
@@ -29,11 +52,11 @@ parts (suc k) s at = part_at s at ∷ parts k s (next_at s at)
 -- what the parts hold, and their numbers
 abbrev pub contents : List Part → List (List ℕ)
 contents [] = []
-contents (p ∷ ps) = p.bytes.now ∷ contents ps
+contents (p ∷ ps) = bytes_in p ∷ contents ps
 
 abbrev pub numbers : List Part → List ℕ
 numbers [] = []
-numbers (p ∷ ps) = p.code ∷ numbers ps
+numbers (p ∷ ps) = number_in p ∷ numbers ps
 
 from_place : {r last : Reader} {ps : List Part} → Reads r ps last
     → (numbers ps ≡ map number_of (answers (length ps) r.tape.now r.at)) × (contents ps ≡ parts (length ps) r.tape.now r.at)
@@ -42,7 +65,8 @@ unfolding code_at
 from_place none = (refl, refl, refl)
 from_place (then {r} {mid} {last} {p} {ps} n more) =
     let w = from_place more in
-    (rw (n.1, w.0, n.2, n.3), rw (n.0.0, w.1, n.2, n.3), w.2 ∙ n.2)
+    let h = handed_part r.tape r.at p n.0 in
+    (rw (h.1, w.0, n.1, n.2), rw (h.0, w.1, n.1, n.2), w.2 ∙ n.1)
 
 -- `open`, and then `next` again and again: the numbers and the parts are those of the whole tape from place 0, and the tape is the one that it was opened on.
 -- Rules out: a reader that opens behind the header, or at another place; one that skips a record, or hands one back twice.
@@ -55,7 +79,7 @@ opened_reads_all tape r last ps o reads =
 -- all of these are records
 abbrev pub Records : List Part → Type 0
 Records [] = Unit {0}
-Records (p ∷ ps) = (length p.bytes.now ≡ 16) × Records ps
+Records (p ∷ ps) = (length (bytes_in p) ≡ 16) × Records ps
 
 moves_on : (s : List ℕ) (at : ℕ) → length (part_at s at) ≡ 16 → next_at s at ≡ at + 16
 unfolding part_at next_at
@@ -81,20 +105,22 @@ records_far : {r last : Reader} {ps : List Part} → Reads r ps last → Records
 records_far none rec = omega arith
 records_far (then {r} {mid} {last} {p} {ps} n more) rec =
     let far = records_far more rec.1 in
-    let step = n.3 ∙ moves_on r.tape.now r.at (ap length (sym n.0.0) ∙ rec.0) in
+    let h = handed_part r.tape r.at p n.0 in
+    let step = n.2 ∙ moves_on r.tape.now r.at (ap length (sym h.0) ∙ rec.0) in
     omega arith
 
--- The nth answer, behind n records, is what stands at place 16 n: its part, where that lies, and its number.
+-- The nth answer, behind n records, is what stands at place 16 n: its part and where that lies, or its refusal; and its number.
 pub nth_answer : (tape : Bor (List ℕ)) (r last after : Reader) (ps : List Part) (p : Part) → Opened tape r → Reads r ps last → Records ps → Next last p after
-    → PartAt tape (16 * length ps) p.bytes × (p.code ≡ code_at tape.now (16 * length ps))
+    → Handed tape (16 * length ps) p × (number_in p ≡ code_at tape.now (16 * length ps))
 nth_answer tape r last after ps p o reads rec n =
     let far = records_far reads rec in
     let here : last.at ≡ 16 * length ps = omega (arith, far, o.1) in
     let same : last.tape ≡ tape = (from_place reads).2 ∙ o.0 in
-    rw (← same, ← here) (n.0, n.1)
+    rw (← same, ← here) (n.0, (handed_part last.tape last.at p n.0).1)
 
 -- The end and a refusal hand back no bytes, and the reader is as it was: so it answers the same ever after (Answers, one-next).
-pub no_record_stays : (r after : Reader) (p : Part) → Next r p after → length p.bytes.now ≡ 0 → after ≡ r
+pub no_record_stays : (r after : Reader) (p : Part) → Next r p after → length (bytes_in p) ≡ 0 → after ≡ r
 no_record_stays r after p n empty =
-    let place = n.3 ∙ stays r.tape.now r.at (ap length (sym n.0.0) ∙ empty) in
-    λ i. record { tape = n.2 i; at = place i }
+    let h = handed_part r.tape r.at p n.0 in
+    let place = n.2 ∙ stays r.tape.now r.at (ap length (sym h.0) ∙ empty) in
+    λ i. record { tape = n.1 i; at = place i }

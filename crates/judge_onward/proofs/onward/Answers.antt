@@ -1,35 +1,41 @@
--- `onward` in place meets its contract: its number is the reader's of 16 bytes, and each way out is the definition's case (Exits). Assumes nothing.
--- (j: the run that is lent; going: it goes on; number: the number found is the reader's.)
-use native.Mathlib.Omega.{arith}
-use mathlib.Core.Path.{◌≡◌, ap, ◌∙◌}
+-- `onward` in place meets its contract: its answer is the reader's of 16 bytes, and each way out is the definition's case (Exits). Assumes nothing.
+-- (j: the run that is lent; going: it goes on; right: the 16 bytes have no fault.)
+use mathlib.Core.Path.{◌≡◌, sym, ap, ◌∙◌}
+use Rattle.std.specs.Prelude.{Ok}
 use Rattle.kernel.specs.Step.{tables}
-use Rattle.record.proofs.Faults.{bytes_fault}
-use Rattle.tape_form.proofs.Reading.{number_so}
-use Rattle.judge_verdict.specs.declared.Stage.TheVariants.{Going}
+use Rattle.record.proofs.Faults.{bytes_fault, unmarked_fault}
 use Rattle.judge_pieces.specs.declared.Run.{Run}
 use Rattle.judge_pieces.specs.Onward.{run_of, answered}
-use Rattle.judge_onward.proofs.Exits.{onward_over, onward_refused, onward_header, onward_command, stepped}
+use Rattle.judge_onward.proofs.Exits.{none_of, fault_is, onward_over, onward_refused, onward_header, onward_command, stepped}
 use Rattle.judge_onward.proofs.onward.Goals as goal
 
-pub returns-in_default : goal.returns-in_default
-returns-in_default c =
+pub returns-then-is_some : goal.returns-then-is_some
+returns-then-is_some c =
     let a = c.args in
     let j : Run =
     run_of (tables a.base.now a.ready.now a.delayed.now a.held.now a.way.now
     a.until.now a.ceiling.now a.waiter.now a.clock.now a.started.now) a.h in
-    onward_over j a.p.now _ c.in_default.is
+    onward_over j a.p.now (sym c.is_some.ensures ∙ c.if-is_some.true)
 
-pub returns-then-code-ne0 : goal.returns-then-code-ne0
-returns-then-code-ne0 c =
+pub returns-then-not-is_marked : goal.returns-then-not-is_marked
+returns-then-not-is_marked c =
     let a = c.args in
     let j : Run =
     run_of (tables a.base.now a.ready.now a.delayed.now a.held.now a.way.now
     a.until.now a.ceiling.now a.waiter.now a.clock.now a.started.now) a.h in
-    let going : j.stage ≡ Going = c.in-Going.is in
-    let number : c.choose-code.result ≡ bytes_fault j.place a.p.now =
-    number_so j.place a.p.now c.choose-code.ensures c.is_marked.ensures c.fault.ensures c.record_of-t.ensures in
-    rw (c.refused.ensures, c.record_of-t.ensures)
-    (onward_refused j a.p.now going c.choose-code.result number c.if-code-ne0.true)
+    let going = none_of c.is_some.ensures c.if-is_some.false in
+    let wrong = unmarked_fault j.place a.p.now (sym c.is_marked.ensures ∙ c.if-not-is_marked.true) in
+    rw c.refused.ensures (onward_refused j a.p.now going wrong)
+
+pub returns-in-Err : goal.returns-in-Err
+returns-in-Err c =
+    let a = c.args in
+    let j : Run =
+    run_of (tables a.base.now a.ready.now a.delayed.now a.held.now a.way.now
+    a.until.now a.ceiling.now a.waiter.now a.clock.now a.started.now) a.h in
+    let going = none_of c.is_some.ensures c.if-is_some.false in
+    let wrong = fault_is j.place a.p.now c.is_marked.ensures c.if-not-is_marked.false c.record_of-t.ensures c.fault.ensures c.in-Err.is in
+    rw (c.refused-in-Err.ensures, c.record_of-t.ensures) (onward_refused j a.p.now going wrong)
 
 pub returns-then-place-eq0 : goal.returns-then-place-eq0
 returns-then-place-eq0 c =
@@ -37,11 +43,10 @@ returns-then-place-eq0 c =
     let j : Run =
     run_of (tables a.base.now a.ready.now a.delayed.now a.held.now a.way.now
     a.until.now a.ceiling.now a.waiter.now a.clock.now a.started.now) a.h in
-    let going : j.stage ≡ Going = c.in-Going.is in
-    let number : c.choose-code.result ≡ bytes_fault j.place a.p.now =
-    number_so j.place a.p.now c.choose-code.ensures c.is_marked.ensures c.fault.ensures c.record_of-t.ensures in
-    rw (c.headed.ensures, c.record_of-t.ensures)
-    (onward_header j a.p.now going c.choose-code.result number (omega arith) c.if-place-eq0.true)
+    let going = none_of c.is_some.ensures c.if-is_some.false in
+    let right : bytes_fault j.place a.p.now ≡ Ok tt =
+    fault_is j.place a.p.now c.is_marked.ensures c.if-not-is_marked.false c.record_of-t.ensures c.fault.ensures c.in_default.is in
+    rw (c.headed.ensures, c.record_of-t.ensures) (onward_header j a.p.now going right c.if-place-eq0.true)
 
 pub returns : goal.returns
 returns c =
@@ -49,13 +54,13 @@ returns c =
     let j : Run =
     run_of (tables a.base.now a.ready.now a.delayed.now a.held.now a.way.now
     a.until.now a.ceiling.now a.waiter.now a.clock.now a.started.now) a.h in
-    let going : j.stage ≡ Going = c.in-Going.is in
-    let number : c.choose-code.result ≡ bytes_fault j.place a.p.now =
-    number_so j.place a.p.now c.choose-code.ensures c.is_marked.ensures c.fault.ensures c.record_of-t.ensures in
+    let going = none_of c.is_some.ensures c.if-is_some.false in
+    let right : bytes_fault j.place a.p.now ≡ Ok tt =
+    fault_is j.place a.p.now c.is_marked.ensures c.if-not-is_marked.false c.record_of-t.ensures c.fault.ensures c.in_default.is in
     let d = c.command_of in
     let u = c.step_trusting-rules.ensures in
     let r = c.record_of-t in
     rw c.compared.ensures
-    (stepped j r.result d.result _ _ _ d.ensures u.0 u.1 c.kept_of.ensures
+    (stepped j r.result d.result _ _ _ d.ensures u.0 u.1 c.from.ensures
     ∙ ap (answered j) r.ensures
-    ∙ onward_command j a.p.now going c.choose-code.result number (omega arith) c.if-place-eq0.false)
+    ∙ onward_command j a.p.now going right c.if-place-eq0.false)
