@@ -9,7 +9,8 @@ use contract.Monad.{Fun}
 use Rattle.one_answer.proofs.Law.{OneAnswer, one}
 use Rattle.record_kept.specs.contracts.KeptFromAnswer as of_answer
 use Rattle.record_kept.specs.contracts.KeptFromRecord as of_record
-use Rattle.record_kept.specs.contracts.Kept.{same, pack}
+use Rattle.record_kept.specs.contracts.Kept.same
+use Rattle.record_kept.specs.contracts.Kept.pack
 
 module _ {M : Type 1} {𝓤 : Ura M} (𝓛 : Logic 𝓤) (mem : Memory → SProp 𝓤) (run : Routine → Fun 𝓤) where
   pub kept_of_single : OneAnswer 𝓤 of_answer.from.ended (of_answer.from.clauses 𝓛 mem run)
