@@ -31,7 +31,7 @@ struct Passed {
 
 // Whether a header stands at byte 0 is asked once, before the loop: that looks for command records only, by a test that
 // is small enough to stand inside it.
-// Kept (plain): 0 or 16 is a size, no flag: a pass begins behind so many bytes, and counts and copies as many.
+// Kept (plain): a size that is added and copied by; as a flag it is asked only for `headed`.
 fn head(buf: &[u8], place: u64) -> usize
     ensures { result ≡ walk.head_size place buf.now }
 {

@@ -15,6 +15,7 @@ use Rattle.one_answer.proofs.Law.{OneAnswer, OneEnd, one, both, each_of_two, eac
 use Rattle.std.specs.Prelude.{Result}
 use Rattle.rules.specs.declared.Refusal.{Refusal}
 use Rattle.tape.specs.contracts.write_at
+use Rattle.tape.specs.contracts.number
 use Rattle.tape.specs.contracts.code_at
 use Rattle.tape.specs.contracts.next_at
 use Rattle.tape.specs.contracts.part_at
@@ -34,6 +35,9 @@ module _ {M : Type 1} {𝓤 : Ura M} (𝓛 : Logic 𝓤) (mem : Memory → SProp
   write_at_single κs a g r s d e = both 𝓤 _ _ _ each_of_two
 
   -- ---- the reader
+
+  pub number_single : OneAnswer 𝓤 number.ended (number.clauses 𝓛 mem run)
+  number_single κs a g r s d e = one 𝓤 _ _ _
 
   pub code_at_single : OneAnswer 𝓤 code_at.ended (code_at.clauses 𝓛 mem run)
   code_at_single κs a g r s d e = one 𝓤 _ _ _

@@ -9,7 +9,7 @@
 
 ghost use Rattle.std.specs.Prelude.{◌≡◌};
 ghost use Rattle.tape_form.specs.Write.{Written};
-ghost use Rattle.tape_form.specs.Read.{code_at, next_at, PartAt};
+ghost use Rattle.tape_form.specs.Read.{number_of, code_at, next_at, PartAt};
 
 use record::RECORD_BYTES;
 pub use record::{Record, header};
@@ -32,15 +32,22 @@ pub fn write_at(out: &mut [u8], at: usize, r: Record) -> Result<(), Refusal>
     Ok(())
 }
 
+// Document 01's number of an answer: 0 for a record and for the end.
+pub fn number(r: Read) -> u8
+    ensures { result ≡ number_of r }
+{
+    match r {
+        Ok(_) => 0,
+        Err(refusal) => refusal.number(),
+    }
+}
+
 // The number of what stands at a place: 0 for a record and for the end, 15, 17.
 #[tactic(auto, unfolding(tape_form::specs::Read::code_at))]
 pub fn code_at(tape: &[u8], at: usize) -> u8
     ensures { result ≡ code_at tape.now at }
 {
-    match read_at(tape, at) {
-        Ok(_) => 0,
-        Err(refusal) => refusal.number(),
-    }
+    number(read_at(tape, at))
 }
 
 // The place behind the record, or the same place where there is none.

@@ -1,7 +1,7 @@
 -- Laws of the reader's definitions. One case analysis, `stands`, says what holds where a reader answers a record, the end, 15 or 17; everything
 -- else about reading goes by its four cases. Assumes nothing.
-use mathlib.Core.Path.{◌≡◌, refl, sym, ap}
-use mathlib.Core.List.{List}
+use mathlib.Core.Path.{◌≡◌, refl, sym, ap, ◌∙◌}
+use mathlib.Core.List.{List, []}
 use mathlib.Core.Bool.{Bool, true, false, cond, not, ◌&&◌}
 use Prim.Native.Nat.{ℕ, ◌+◌, ◌-◌, ◌%◌, ◌≤◌, ◌<◌}
 use native.Mathlib.Omega.{arith}
@@ -15,7 +15,7 @@ use Rattle.record.specs.declared.Record.{Record}
 use Rattle.record.specs.Form.{record_of, marked, header_fields, command_fields, is_seed}
 use Rattle.record.specs.Fault.{fault_of}
 use Rattle.record.proofs.Faults.{bytes_fault, answer, Answer, answered, right, wrong, unseeded}
-use Rattle.tape_form.specs.Read.{Read, judged, end_of, read_of, part_at, start_at}
+use Rattle.tape_form.specs.Read.{Read, judged, end_of, read_of, size_of, start_of, part_at, start_at}
 
 -- what the reader answers of bytes that the writer answers so
 abbrev pub read_as : Result Unit Refusal → Record → ℕ → Read
@@ -127,3 +127,14 @@ found_part s at r next e =
     let f = found_at s at r next e in
     let n : next - at ≡ 16 = omega (arith, f.0) in
     rw (e, n) (refl, refl)
+
+-- The part where no record stands is empty, and lies at the tape's start.
+pub part_none : (s : List ℕ) (at n : ℕ) → n ≡ size_of (read_of s at) → n ≡ 0 → ([] ≡ part_at s at) × (start_at s at ≡ 0)
+unfolding part_at start_at
+part_none s at n e z = go (stands s at) (sym e ∙ z)
+  where
+    go : {r : Read} → Stands s at r → size_of r ≡ 0 → ([] ≡ take (size_of r) (drop at s)) × (start_of at r ≡ 0)
+    go (found w l f) q = absurd (omega arith)
+    go (end w l f) q = (refl, refl)
+    go no_record q = (refl, refl)
+    go (no_seed a l) q = (refl, refl)
