@@ -7,6 +7,14 @@ ghost use Rattle.rules.specs.Line.{among};
 use std::io;
 use std::io::{Print, Read};
 
+// Whether a byte 13 stands in a piece.
+#[tactic(auto, using(crate::proofs::Returns::looked_for))]
+fn has_return(piece: &[u8]) -> bool
+    ensures { result ≡ among piece.now 13 }
+{
+    piece.contains(&13)
+}
+
 // Said once: a script from a machine that ends its lines with 13 and 10 is refused line by line, and no number says
 // why.
 pub fn hinted<E: Print>(errors: &E, given: bool, piece: &[u8]) -> bool
@@ -15,7 +23,7 @@ pub fn hinted<E: Print>(errors: &E, given: bool, piece: &[u8]) -> bool
     if given {
         return true;
     }
-    if !piece.contains(&13) {
+    if !has_return(piece) {
         return false;
     }
     let _ = errors.write_all(
