@@ -225,13 +225,17 @@ pub fn move_down(buf: &mut [u8], done: usize, n: usize) -> usize
     n - done
 }
 
-// The end of the tape, with so many bytes held: the last dropped stretch, if there is one.
-pub fn last_stretch(t: Torn, held: usize) -> Option<Stretch>
+// The end of the tape, with so many bytes held: the last dropped stretch, of size 0 where there is none.
+// Kept (promise): where nothing is open the size is 0, and the place stands all the same.
+pub fn last_stretch(t: Torn, held: usize) -> Stretch
     ensures { result ≡ pieces.last_of t held }
 {
     let first = t.from.min(t.place);
     let end = t.place.saturating_add(held as u64);
-    stretch(first, end)
+    Stretch {
+        first,
+        size: end - first,
+    }
 }
 
 // ---- A whole tape
