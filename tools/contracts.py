@@ -37,13 +37,14 @@ def functions(source, modules):
         clauses, at = set(), head.end()
         while True:
             brace = text.index('{', at)
+            declared = ';' in re.sub(r'\[[^\]]*\]', '', text[at:brace])
             clause = CLAUSE.search(text[at:brace])
-            if not clause:
+            if declared or not clause:
                 break
             clauses.add(clause.group(1))
             at = closing(text, brace)
-        if ';' in re.sub(r'\[[^\]]*\]', '', text[at:brace]):
-            continue  # declared only
+        if declared:
+            continue
         owner = [name for start, end, name in owners if start < head.start() < end]
         yield Function(
             path='.'.join(modules + owner + [head.group(2)]),
