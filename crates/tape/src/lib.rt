@@ -27,8 +27,9 @@ pub fn write_at(out: &mut [u8], at: usize, r: Record) -> Result<(), Refusal>
     ensures { Written out.old at r result out.new }
 {
     write_code(out.len(), at, r)?;
-    let end = at + RECORD_BYTES;
-    out[at..end].copy_from_slice(&bytes_of(r));
+    if let Some(cells) = out[at..].first_chunk_mut::<RECORD_BYTES>() {
+        *cells = bytes_of(r);
+    }
     Ok(())
 }
 
