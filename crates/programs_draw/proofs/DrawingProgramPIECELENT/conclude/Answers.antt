@@ -18,5 +18,5 @@ returns g c =
     inr (
       on,
       then_more (end_text _) _ read w.result all.result on took
-      (subst (λ (d : DrawRun). Concluded (some_text d.left d) w.result all.result) put.ensures.0 all.ensures),
+          (subst (λ (d : DrawRun). Concluded (some_text d.left d) w.result all.result) put.ensures.0 all.ensures),
     )
