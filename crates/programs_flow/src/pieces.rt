@@ -35,8 +35,8 @@ pub trait Program<const N: usize, const M: usize> {
     fn put_header(&self, out: &mut [u8; M]) -> usize
         ensures { loops.Put result out.new header × IsPrefixLen result out.new × (length out.new ≡ M) };
 
-    // It looks at a piece that was read, and may say something of it on standard error. Whether it has: what was said
-    // once stays said.
+    // A look at the piece that was read, for a hint on standard error; nothing else comes of it. It answers whether the
+    // hint is given: now, or before, and then it stays so.
     fn remark<E: Print>(&self, errors: &E, given: bool, piece: &[u8]) -> bool
         ensures { given ≡ true → result ≡ true };
 

@@ -60,13 +60,7 @@ impl Program<PIECE, LENT> for Walking {
         hinted(errors, given, piece)
     }
 
-    fn feed(
-        &self,
-        w: Walk,
-        piece: &[u8; PIECE],
-        n: usize,
-        out: &mut [u8; LENT],
-    ) -> (Walk, usize) {
+    fn feed(&self, w: Walk, piece: &[u8; PIECE], n: usize, out: &mut [u8; LENT]) -> (Walk, usize) {
         let f = feed(w, &piece[..n.min(piece.len())], out);
         (f.walk, f.at)
     }
