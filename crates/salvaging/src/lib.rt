@@ -227,6 +227,7 @@ pub fn move_down(buf: &mut [u8], done: usize, n: usize) -> usize
 
 // The end of the tape, with so many bytes held: the last dropped stretch, of size 0 where there is none.
 // Kept (promise): where nothing is open the size is 0, and the place stands all the same.
+#[tactic(auto, unfolding(salvage_marks::specs::Pieces::last_of))]
 pub fn last_stretch(t: Torn, held: usize) -> Stretch
     ensures { result ≡ pieces.last_of t held }
 {
