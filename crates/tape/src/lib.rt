@@ -7,7 +7,7 @@
 // place: crate tape_read. The reader that holds its tape: crate tape_reader.)
 #![tactic(auto)]
 
-ghost use Rattle.std.specs.Prelude.{◌≡◌};
+ghost use Rattle.std.specs.Prelude.{◌≡◌, ◌++◌, ◌≤◌, length, drop};
 ghost use Rattle.tape_form.specs.Write.{Written};
 ghost use Rattle.tape_form.specs.Read.{number_of, code_at, next_at, PartAt};
 
@@ -20,6 +20,17 @@ use tape_checks::write_code;
 pub use tape_form::Read;
 pub use tape_read::{place, read_at};
 
+// A record's bytes at the front of a part. They are stored as one array: where the compiler has to see that two buffers
+// lie apart, as of a slice that is copied, a write took three times as long.
+fn put(part: &mut [u8], p: [u8; 16])
+    requires { 16 ≤ length part.old }
+    ensures { part.new ≡ p ++ drop 16 part.old }
+{
+    if let Some(cells) = part.first_chunk_mut::<RECORD_BYTES>() {
+        *cells = p;
+    }
+}
+
 // Writes a record, the header at place 0 and a command record elsewhere, into the part of the buffer that follows the
 // last one. A refusal, 15, 17 or 16, leaves the buffer as it was.
 #[tactic(auto, using(tape_form::proofs::Writing::accepted), unfolding(tape_form::specs::Write::write_of))]
@@ -27,9 +38,7 @@ pub fn write_at(out: &mut [u8], at: usize, r: Record) -> Result<(), Refusal>
     ensures { Written out.old at r result out.new }
 {
     write_code(out.len(), at, r)?;
-    if let Some(cells) = out[at..].first_chunk_mut::<RECORD_BYTES>() {
-        *cells = bytes_of(r);
-    }
+    put(&mut out[at..], bytes_of(r));
     Ok(())
 }
 
