@@ -7,9 +7,10 @@
 // place: crate tape_read. The reader that holds its tape: crate tape_reader.)
 #![tactic(auto)]
 
-ghost use Rattle.std.specs.Prelude.{◌≡◌, ◌++◌, ◌≤◌, length, drop};
+ghost use Rattle.std.specs.Prelude.{◌≡◌, ◌++◌, ◌≤◌, ℕ, length, drop};
+ghost use Rattle.rules.specs.Numbers.{number_of};
 ghost use Rattle.tape_form.specs.Write.{Written};
-ghost use Rattle.tape_form.specs.Read.{number_of, code_at, next_at, PartAt};
+ghost use Rattle.tape_form.specs.Read.{number_by, code_at, next_at, PartAt};
 
 use record::RECORD_BYTES;
 pub use record::{Record, header};
@@ -42,13 +43,38 @@ pub fn write_at(out: &mut [u8], at: usize, r: Record) -> Result<(), Refusal>
     Ok(())
 }
 
+// What a refusal comes as: by its name, or by a number.
+pub trait Numbered: Drop {
+    ghost numbered: { Self → ℕ };
+
+    fn numbered(self) -> u8
+        ensures { result ≡ numbered self };
+}
+
+impl Numbered for Refusal {
+    ghost numbered = { number_of };
+
+    fn numbered(self) -> u8 {
+        self.number()
+    }
+}
+
+impl Numbered for u8 {
+    ghost numbered = { λ n. n };
+
+    fn numbered(self) -> u8 {
+        self
+    }
+}
+
 // Document 01's number of an answer: 0 for a record and for the end.
-pub fn number(r: Read) -> u8
-    ensures { result ≡ number_of r }
+// Kept (promise): any refusal fits, by its name or by a number, whichever that is.
+pub fn number<E: Numbered>(r: Result<Option<(Record, usize)>, E>) -> u8
+    ensures { result ≡ number_by E.numbered r }
 {
     match r {
         Ok(_) => 0,
-        Err(refusal) => refusal.number(),
+        Err(refusal) => refusal.numbered(),
     }
 }
 
