@@ -7,6 +7,7 @@ ghost use Rattle.std.proofs.Common.{rules};
 ghost use Rattle.text.specs.Printed.{walk_header};
 ghost use Rattle.decimal.specs.Buffer.{InFront};
 ghost use Rattle.show_text.specs.Show as shows;
+ghost use Rattle.show_text.specs.Show.{last_text, show_lent};
 ghost use Rattle.programs_flow.specs.Loops as loops;
 ghost use Rattle.programs_show.specs.Work.{Shown, ShownOrFailed, DoneRefusedFailed};
 
@@ -26,8 +27,8 @@ const LENT: usize = 65536;
 
 // Where out is the one that is lent, there is room for a last line.
 fn put_last(w: Showing, only: u64, out: &mut [u8]) -> usize
-    requires { shows.show_lent ≡ length out.old }
-    ensures { loops.Put result out.new (shows.last_text only w) × InFront result out.new }
+    requires { show_lent ≡ length out.old }
+    ensures { loops.Put result out.new (last_text only w) × InFront result out.new }
 {
     finish(w, only, out)
 }
