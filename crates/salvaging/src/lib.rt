@@ -13,7 +13,7 @@ ghost use Rattle.salvage_marks.specs.Torn as torn;
 ghost use Rattle.salvage_marks.specs.Pieces as pieces;
 ghost use Rattle.salvaging.specs.Walk as walk;
 
-use crate::sinks::{Buffers, Nowhere, Sink, keep, list_one, numbers};
+use crate::sinks::{Buffers, Nowhere, Sink, keep_head, list_one, numbers};
 use record::RECORD_BYTES;
 use record_bytes::{is_command, is_header};
 use rules::Refusal;
@@ -163,7 +163,7 @@ impl<'a> Seen<'a> {
             ≡ sets list.old 0
             (torn.cells (pieces.ended self.now.begin self.now.place (walk.marked_at self.now.place self.now.buf.now))) }
     {
-        keep(out, 0, &self.buf[..self.head]);
+        keep_head(out, self.buf, self.head);
         let mut both = Buffers { out, list };
         self.pass(&mut both)
     }
