@@ -4,7 +4,7 @@
     python3 tools/contracts.py        # counts, or each function that breaks a rule, and status 1
 
   - every public function has an `ensures`: none lacks a contract on its answer;
-  - no public function has a `requires`: no caller has to check first;
+  - no public function has a `requires`: no caller has to check first; and so with the functions that a public trait declares;
   - no body has over 40 lines, and none has two loops: they are read by people;
   - every public function has its statement that no second answer meets its contract (tools/one_answer.py), or stands among the
     exceptions of docs/EVIDENCE.md, "One answer".
@@ -23,10 +23,36 @@ LONGEST = 40
 HEAD = re.compile(r'^[ \t]*(pub(?:\([a-z]+\))?[ \t]+)?(?:(?:const|unsafe|safe|final)[ \t]+)*(?:extern[ \t]+)?fn[ \t]+(\w+)', re.M)
 # `ensures {`, `ensures low {`, `ensures* {`; and of a ghost parameter `ghost n: {`
 CLAUSE = re.compile(r'\b(requires|ensures|ghost)\*?(?:\s+\w+)?\s*:?\s*$')
+TRAIT = re.compile(r'^pub[ \t]+trait[ \t]+(\w+)[^{]*\{', re.M)
 IMPL = re.compile(r'^impl\b[^{]*?(\w+)(?:<[^{]*>)?\s*\{', re.M)
 # `path`: modules, type and name, as the proofs spell it (walk.feed, Kernel.step). `signature`: from the name to the first clause.
 # `length`: how many lines lie between its first and its last.
 Function = collections.namedtuple('Function', 'path line length public clauses signature body')
+
+
+def clauses_at(text, at):
+    """Of a function whose name ends here: its clauses, the brace behind them, and whether it is declared only and has no body there."""
+    clauses = set()
+    while True:
+        brace = text.index('{', at)
+        declared = ';' in re.sub(r'\[[^\]]*\]', '', text[at:brace])
+        clause = CLAUSE.search(text[at:brace])
+        if declared or not clause:
+            return clauses, brace, declared
+        clauses.add(clause.group(1))
+        at = closing(text, brace)
+
+
+def declared_faults(source):
+    """Of each function that a public trait has: which of the rules on clauses it breaks."""
+    text = code(source)
+    for trait in TRAIT.finditer(text):
+        for head in HEAD.finditer(text, trait.end(), closing(text, trait.end() - 1)):
+            clauses = clauses_at(text, head.end())[0]
+            if 'ensures' not in clauses:
+                yield f'{trait.group(1)}.{head.group(2)} of a public trait has no `ensures`: say what it answers'
+            if 'requires' in clauses:
+                yield f'{trait.group(1)}.{head.group(2)} of a public trait has a `requires`: have the types say it'
 
 
 def functions(source, modules):
@@ -34,16 +60,9 @@ def functions(source, modules):
     text = code(source)
     owners = [(m.end() - 1, closing(text, m.end() - 1), m.group(1)) for m in IMPL.finditer(text)]
     for head in HEAD.finditer(text):
-        clauses, at = set(), head.end()
-        while True:
-            brace = text.index('{', at)
-            clause = CLAUSE.search(text[at:brace])
-            if not clause:
-                break
-            clauses.add(clause.group(1))
-            at = closing(text, brace)
-        if ';' in re.sub(r'\[[^\]]*\]', '', text[at:brace]):
-            continue  # declared only
+        clauses, brace, declared = clauses_at(text, head.end())
+        if declared:
+            continue
         owner = [name for start, end, name in owners if start < head.start() < end]
         yield Function(
             path='.'.join(modules + owner + [head.group(2)]),
@@ -79,6 +98,7 @@ def main():
     count, public, broken = 0, collections.defaultdict(list), []
     for path in sorted(root.glob('crates/*/src/**/*.rt')):
         below = path.relative_to(root).parts
+        broken += [f'{path.relative_to(root)}: {said}' for said in declared_faults(path.read_text())]
         for function in functions(path.read_text(), modules_of(pathlib.PurePath(*below[2:]))):
             count += 1
             place = f'{path.relative_to(root)}:{function.line}: {function.path}'

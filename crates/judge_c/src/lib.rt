@@ -31,7 +31,7 @@ fn reply_to(j: Judgement) -> Reply
             ],
         },
         Verdict::Refused(e) => Reply {
-            code: u32::from(e.refusal.number()),
+            code: u32::from(e.code),
             numbers: [seed, e.number as u64, 0, 0],
         },
     }

@@ -1,7 +1,6 @@
 -- What the call from C answers, and what it leaves in the numbers that it was lent: of tapes of every length, whatever
 -- they hold.
 use Rattle.std.specs.Prelude.{ℕ, cond, List, [], ◌∷◌, eqb, length}
-use Rattle.rules.specs.Numbers.{number_of}
 use Rattle.record_kept.specs.Kept.{packed}
 use Rattle.judge_verdict.specs.declared.Verdict.{Verdict}
 use Rattle.judge_verdict.specs.declared.Verdict.TheVariants.{Agrees, Differs, Refused}
@@ -16,7 +15,7 @@ abbrev pub reply_of : ℕ → Verdict → Reply
 reply_of seed (Agrees records) = record { code = 0; numbers = seed ∷ records ∷ 0 ∷ 0 ∷ [] }
 reply_of seed (Differs d) =
     record { code = 255; numbers = seed ∷ d.number ∷ packed d.tape ∷ packed d.rules ∷ [] }
-reply_of seed (Refused e) = record { code = number_of e.refusal; numbers = seed ∷ e.number ∷ 0 ∷ 0 ∷ [] }
+reply_of seed (Refused e) = record { code = e.code; numbers = seed ∷ e.number ∷ 0 ∷ 0 ∷ [] }
 
 abbrev pub reply_to : Judgement → Reply
 reply_to j = reply_of j.seed j.verdict

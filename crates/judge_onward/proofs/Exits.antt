@@ -12,6 +12,7 @@ use Rattle.kernel.specs.Public.{to_rules}
 use Rattle.kernel.specs.Step.{stepped_of}
 use Rattle.std.specs.Prelude.{Option, Some, None, Result, Ok, Err, is_some}
 use Rattle.rules.specs.declared.Refusal.{Refusal}
+use Rattle.rules.specs.Numbers.{number_of}
 use Rattle.record.specs.declared.Record.{Record}
 use Rattle.record.specs.Form.{record_of, marked}
 use Rattle.record.specs.Fault.{fault_of}
@@ -51,7 +52,7 @@ pub fault_is : (at : ℕ) (p : List ℕ) {m : Bool} {r : Record} {f g : Result U
 fault_is at p e m r f g = marked_fault at p (sym e ∙ m) ∙ ap (fault_of at) (sym r) ∙ sym f ∙ g
 
 module _ (x : Run) (p : List ℕ) (g : x.verdict ≡ None) where
-  pub onward_refused : {e : Refusal} → bytes_fault x.place p ≡ Err e → run_of x.kernel (refused (head_of x) e (record_of p).value) ≡ onward x p
+  pub onward_refused : {e : Refusal} → bytes_fault x.place p ≡ Err e → run_of x.kernel (refused (head_of x) (number_of e) (record_of p).value) ≡ onward x p
   unfolding onward taken
   onward_refused f = rw (g, ← judged_not x.place p f)
 

@@ -46,10 +46,10 @@ pub fn onward(
     let place = h.place;
     let t = record_of(p);
     if !is_marked(p) {
-        return refused(h, Refusal::Record, t.value);
+        return refused(h, Refusal::Record.number(), t.value);
     }
     if let Err(refusal) = fault(place, t) {
-        return refused(h, refusal, t.value);
+        return refused(h, refusal.number(), t.value);
     }
     if place == 0 {
         return headed(h, t.value);

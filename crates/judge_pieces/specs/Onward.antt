@@ -1,5 +1,6 @@
 -- A record more: where a judge stands behind the next 16 bytes, over any machine that it is given.
 use Rattle.std.specs.Prelude.{ℕ, cond, List, eqb, Option, Some, None, Ok, Err}
+use Rattle.rules.specs.Numbers.{number_of}
 use Rattle.kernel.specs.declared.Kernel.{Kernel}
 use Rattle.kernel.specs.Step.{stepped_of}
 use Rattle.record.specs.declared.Record.{Record}
@@ -30,7 +31,7 @@ answered x r =
 unfoldable pub taken : Run → List ℕ → Read → Run
 taken x p (Ok (Some (r, next))) = cond (eqb x.place 0) (run_of x.kernel (headed (head_of x) r.value)) (answered x r)
 taken x p (Ok None) = x
-taken x p (Err e) = run_of x.kernel (refused (head_of x) e (record_of p).value)
+taken x p (Err e) = run_of x.kernel (refused (head_of x) (number_of e) (record_of p).value)
 
 -- the one while no verdict is there, the other behind it
 abbrev pub if_going : Option Verdict → Run → Run → Run

@@ -5,7 +5,6 @@
 #![tactic(auto)]
 
 ghost use Rattle.std.specs.Prelude.{◌≡◌};
-ghost use Rattle.rules.specs.Numbers.{number_of};
 ghost use Rattle.judge_verdict.specs.Verdict as said;
 ghost use Rattle.judge_verdict.specs.Behind as behind;
 
@@ -13,7 +12,6 @@ use judge_verdict::{Difference, Head, RefusedAt, Verdict};
 use kernel_checks::Command;
 use record::{RECORD_BYTES, Record};
 use record_kept::Kept;
-use rules::Refusal;
 
 // The place behind a record. The last places of 64 bits are followed by themselves: no tape is so long.
 fn beyond(place: usize) -> usize
@@ -29,20 +27,17 @@ pub fn place_of(number: usize) -> usize
     number << 4
 }
 
-fn seed_shown(refusal: Refusal, value: u64, seed: u64) -> u64
-    ensures { result ≡ said.seed_shown (number_of refusal) value seed }
+fn seed_shown(code: u8, value: u64, seed: u64) -> u64
+    ensures { result ≡ said.seed_shown code value seed }
 {
-    match refusal {
-        Refusal::Seed => value,
-        _ => seed,
-    }
+    if code == 17 { value } else { seed }
 }
 
-fn refused_at(refusal: Refusal, place: usize) -> Verdict
-    ensures { result ≡ behind.refused_at refusal place }
+fn refused_at(code: u8, place: usize) -> Verdict
+    ensures { result ≡ behind.refused_at code place }
 {
     Verdict::Refused(RefusedAt {
-        refusal,
+        code,
         number: place >> 4,
         place,
     })
@@ -61,14 +56,14 @@ pub fn command_of(t: Record) -> Command
 }
 
 // Behind a record that is none, of that value: 15 or 17 is the verdict.
-pub fn refused(h: Head, refusal: Refusal, value: u64) -> Head
-    ensures { result ≡ behind.refused h refusal value }
+pub fn refused(h: Head, code: u8, value: u64) -> Head
+    ensures { result ≡ behind.refused h code value }
 {
     let place = h.place;
     Head {
         place,
-        seed: seed_shown(refusal, value, h.seed),
-        verdict: Some(refused_at(refusal, place)),
+        seed: seed_shown(code, value, h.seed),
+        verdict: Some(refused_at(code, place)),
     }
 }
 
@@ -121,7 +116,7 @@ pub fn at_end(verdict: Option<Verdict>, place: usize, count: usize) -> Verdict
         return found;
     }
     if (place < RECORD_BYTES) | (count != 0) {
-        return refused_at(Refusal::Record, place);
+        return refused_at(15, place);
     }
     Verdict::Agrees((place >> 4) - 1)
 }

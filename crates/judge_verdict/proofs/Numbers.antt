@@ -7,8 +7,6 @@ use mathlib.Core.Path.{◌≡◌, refl, ap}
 use mathlib.Core.Logic.{◌≢◌}
 use mathlib.Core.List.{List, [], ◌∷◌}
 use lib.ListN.{get_or}
-use Rattle.rules.specs.declared.Refusal.TheVariants.{Record as NoRecord, Seed}
-use Rattle.rules.specs.Numbers.{number_of}
 use Rattle.judge_verdict.specs.declared.Difference.{Difference}
 use Rattle.judge_verdict.specs.declared.RefusedAt.{RefusedAt}
 use Rattle.judge_verdict.specs.declared.Judgement.{Judgement}
@@ -25,14 +23,14 @@ pub data Tells (s : List ℕ) (seed : ℕ) : ℕ → ℕ → List ℕ → Type 0
       → Tells s seed 1 255
       (d.number ∷ 16 * d.number ∷ d.command.op ∷ d.command.a ∷ d.command.b ∷ d.command.value
       ∷ d.tape.code ∷ d.tape.running.0 ∷ d.tape.released.0 ∷ d.rules.code ∷ d.rules.running.0 ∷ d.rules.released.0 ∷ [])
-  no_record : (n place : ℕ) → FirstRefused s seed (record { refusal = NoRecord; number = n; place = place }) → Tells s seed 2 15 (n ∷ place ∷ [])
-  no_seed : FirstRefused s seed (record { refusal = Seed; number = 0; place = 0 }) → Tells s seed 2 17 (0 ∷ 0 ∷ [])
+  no_record : (n place : ℕ) → FirstRefused s seed (record { code = 15; number = n; place = place }) → Tells s seed 2 15 (n ∷ place ∷ [])
+  no_seed : FirstRefused s seed (record { code = 17; number = 0; place = 0 }) → Tells s seed 2 17 (0 ∷ 0 ∷ [])
 
 -- what is told of a judgement
 abbrev JudgementTells : List ℕ → Judgement → Type 0
 JudgementTells s j = Tells s j.seed (status_of j.verdict) (verdict_number j.verdict) (values_of j.verdict)
 
-refused_tells : {s : List ℕ} {seed : ℕ} {e : RefusedAt} → FirstRefused s seed e → Tells s seed 2 (number_of e.refusal) (e.number ∷ e.place ∷ [])
+refused_tells : {s : List ℕ} {seed : ℕ} {e : RefusedAt} → FirstRefused s seed e → Tells s seed 2 e.code (e.number ∷ e.place ∷ [])
 refused_tells (no_header h) = no_record 0 0 (no_header h)
 refused_tells (bad_seed edition value rest h q l n) = no_seed (bad_seed edition value rest h q l n)
 refused_tells (no_command seed rs rest b h) = no_record _ _ (no_command seed rs rest b h)
@@ -67,12 +65,12 @@ pub tells_judged : {s : List ℕ} {seed status number : ℕ} {values : List ℕ}
 tells_judged {s = s} {seed = seed} (all_agree k a) = shows seed (Agrees k) (says_judged s seed (Agrees k) a)
 tells_judged {s = s} {seed = seed} (one_differs d a) = shows seed (Differs d) (says_judged s seed (Differs d) a)
 tells_judged {s = s} {seed = seed} (no_record n place a) =
-    let e : RefusedAt = record { refusal = NoRecord; number = n; place = place } in shows seed (Refused e) (says_judged s seed (Refused e) a)
+    let e : RefusedAt = record { code = 15; number = n; place = place } in shows seed (Refused e) (says_judged s seed (Refused e) a)
 tells_judged {s = s} {seed = seed} (no_seed a) =
-    let e : RefusedAt = record { refusal = Seed; number = 0; place = 0 } in shows seed (Refused e) (says_judged s seed (Refused e) a)
+    let e : RefusedAt = record { code = 17; number = 0; place = 0 } in shows seed (Refused e) (says_judged s seed (Refused e) a)
 
 -- A refusal's number is 15 or 17, and none of the other two.
-pub stops_not : {s : List ℕ} {seed : ℕ} {e : RefusedAt} (n : ℕ) → 15 ≢ n → 17 ≢ n → FirstRefused s seed e → number_of e.refusal ≢ n
+pub stops_not : {s : List ℕ} {seed : ℕ} {e : RefusedAt} (n : ℕ) → 15 ≢ n → 17 ≢ n → FirstRefused s seed e → e.code ≢ n
 stops_not n a b (no_header h) = a
 stops_not n a b (bad_seed edition value rest h q l k) = b
 stops_not n a b (no_command seed rs rest g h) = a

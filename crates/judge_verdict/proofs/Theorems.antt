@@ -409,13 +409,13 @@ seventeen_bytes p = go (marked p) refl (header_fields (record_of p)) refl (is_se
     go false em h eh v ev e = absurd cc
 
 header_refused : (s : List ℕ) (small : (i : ℕ) → get_or s i 0 < 256) (c : Refusal) → read_of s 0 ≡ Err c
-    → FirstRefused s (seed_shown (refusals.number_of c) (record_of (take 16 s)).value 0) (record { refusal = c; number = 0; place = 0 })
+    → FirstRefused s (seed_shown (refusals.number_of c) (record_of (take 16 s)).value 0) (record { code = refusals.number_of c; number = 0; place = 0 })
 header_refused s small c e = go (stands s 0) e
   where
     p : List ℕ
     p = take 16 s
 
-    bad : 16 ≤ length s → read_of s 0 ≡ Err Seed → FirstRefused s (record_of p).value (record { refusal = Seed; number = 0; place = 0 })
+    bad : 16 ≤ length s → read_of s 0 ≡ Err Seed → FirstRefused s (record_of p).value (record { code = 17; number = 0; place = 0 })
     bad l q =
         let k = seventeen_bytes p (read_judged s 0 refl (omega arith) (λ z. omega arith) l ∙ q) in
         let h = header_is (record_of p) k.fields in
@@ -424,7 +424,7 @@ header_refused s small c e = go (stands s 0) e
         bad_seed (record_of p).a (record_of p).value (drop 16 s) h.1 (sym (take-append-drop 16 s) ∙ ap (λ (x : List ℕ). x ++ drop 16 s) (sym b))
         (value_kept p (part_small s small 0)) k.value
 
-    go : {x : Read} → Stands s 0 x → x ≡ Err c → FirstRefused s (seed_shown (refusals.number_of c) (record_of p).value 0) (record { refusal = c; number = 0; place = 0 })
+    go : {x : Read} → Stands s 0 x → x ≡ Err c → FirstRefused s (seed_shown (refusals.number_of c) (record_of p).value 0) (record { code = refusals.number_of c; number = 0; place = 0 })
     go (found w l f) q = absurd cc
     go (end w l f) q = absurd cc
     go no_record q = let z : c ≡ NoRecord = cc in rw z (no_header (rw z at e))

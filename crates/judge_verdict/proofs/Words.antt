@@ -6,7 +6,7 @@ use mathlib.Core.Bool.{true, false}
 use mathlib.Core.List.{List, [], ◌∷◌, ◌++◌, map}
 use lib.ListN.{length}
 use Rattle.std.specs.Prelude.{Err}
-use Rattle.rules.specs.declared.Refusal.TheVariants.{Record as NoRecord, Seed}
+use Rattle.rules.specs.declared.Refusal.TheVariants.{Record as NoRecord}
 use Rattle.rules.specs.Machine.{Machine, fresh}
 use Rattle.rules.specs.Run.{answer, run, answers}
 use Rattle.rules.proofs.Words.{All}
@@ -59,12 +59,12 @@ pub record FirstDiffers (s : List ℕ) (seed : ℕ) (d : Difference) : Type 0 wh
 -- The first that is no record: there is no header (15), or one whose value is no seed (17), and then that value is shown; or all before it agree, and it is no
 -- command record (15).
 pub data FirstRefused (s : List ℕ) : ℕ → RefusedAt → Type 0 where
-  no_header : read_of s 0 ≡ Err NoRecord → FirstRefused s 0 (record { refusal = NoRecord; number = 0; place = 0 })
+  no_header : read_of s 0 ≡ Err NoRecord → FirstRefused s 0 (record { code = 15; number = 0; place = 0 })
   bad_seed : (edition value : ℕ) (rest : List ℕ) → is_edition edition ≡ true → s ≡ bytes_of (header_of edition value) ++ rest → value < 18446744073709551616
       → is_seed value ≡ false
-      → FirstRefused s value (record { refusal = Seed; number = 0; place = 0 })
+      → FirstRefused s value (record { code = 17; number = 0; place = 0 })
   no_command : (seed : ℕ) (records : List Record) (rest : List ℕ) → Begins s seed records rest → read_of s (16 * suc (length records)) ≡ Err NoRecord
-      → FirstRefused s seed (record { refusal = NoRecord; number = suc (length records); place = 16 * suc (length records) })
+      → FirstRefused s seed (record { code = 15; number = suc (length records); place = 16 * suc (length records) })
 
 -- What a verdict says of a tape, with the seed that is shown.
 abbrev pub Says : List ℕ → ℕ → Verdict → Type 0

@@ -3,8 +3,6 @@
 use Prim.Native.Nat.{ℕ}
 use mathlib.Core.Path.{◌≡◌, refl}
 use mathlib.Core.List.{List, [], ◌∷◌, ◌++◌}
-use Rattle.rules.specs.declared.Refusal.{Refusal}
-use Rattle.rules.specs.declared.Refusal.TheVariants.{Record as NoRecord, Seed}
 use Rattle.rules.specs.Line.{all_below}
 use Rattle.rules.specs.Table.{carry, leave, release}
 use Rattle.rules.specs.Refusals.{refusal}
@@ -43,8 +41,8 @@ walk running released = set_up ++ sixteen 3 0 0 0 0 running 0 ++ between ++ sixt
 abbrev says : ℕ → Verdict → Judgement
 says seed v = record { seed = seed; verdict = v }
 
-abbrev refused : Refusal → ℕ → ℕ → Verdict
-refused e number place = Malformed (record { refusal = e; number = number; place = place })
+abbrev refused : ℕ → ℕ → ℕ → Verdict
+refused code number place = Malformed (record { code = code; number = number; place = place })
 
 abbrev keeps : ℕ → ℕ → ℕ → Kept
 keeps code running released = record { code = code; running = record { 0 = running }; released = record { 0 = released } }
@@ -60,12 +58,12 @@ edition_of edition seed = sixteen 0 edition 0 seed 0 0 0
 -- Of a header that is right but for its seed that is shown, and of no other: 2^32, a number of eight bytes, the largest, and one of edition 2; the edition 3,
 -- and a second header.
 pub seeds :
-    (verdict_of (header_of (0 ∷ 0 ∷ 0 ∷ 0 ∷ 1 ∷ 0 ∷ 0 ∷ 0 ∷ []) ++ sixteen 1 1 3 0 0 0 0) ≡ says 4294967296 (refused Seed 0 0))
-    × (verdict_of (header_of (1 ∷ 2 ∷ 3 ∷ 4 ∷ 5 ∷ 6 ∷ 7 ∷ 8 ∷ [])) ≡ says 578437695752307201 (refused Seed 0 0))
-    × (verdict_of (header_of (255 ∷ 255 ∷ 255 ∷ 255 ∷ 255 ∷ 255 ∷ 255 ∷ 255 ∷ [])) ≡ says 18446744073709551615 (refused Seed 0 0))
-    × (verdict_of (82 ∷ 86 ∷ 0 ∷ 2 ∷ 0 ∷ 0 ∷ 0 ∷ 0 ∷ 9 ∷ 0 ∷ 0 ∷ 0 ∷ 1 ∷ 0 ∷ 0 ∷ 0 ∷ []) ≡ says 4294967305 (refused Seed 0 0))
-    × (verdict_of (82 ∷ 86 ∷ 0 ∷ 3 ∷ 0 ∷ 0 ∷ 0 ∷ 0 ∷ 9 ∷ 0 ∷ 0 ∷ 0 ∷ 1 ∷ 0 ∷ 0 ∷ 0 ∷ []) ≡ says 0 (refused NoRecord 0 0))
-    × (verdict_of (header 7 ++ header_of (1 ∷ 2 ∷ 3 ∷ 4 ∷ 5 ∷ 6 ∷ 7 ∷ 8 ∷ [])) ≡ says 7 (refused NoRecord 1 16))
+    (verdict_of (header_of (0 ∷ 0 ∷ 0 ∷ 0 ∷ 1 ∷ 0 ∷ 0 ∷ 0 ∷ []) ++ sixteen 1 1 3 0 0 0 0) ≡ says 4294967296 (refused 17 0 0))
+    × (verdict_of (header_of (1 ∷ 2 ∷ 3 ∷ 4 ∷ 5 ∷ 6 ∷ 7 ∷ 8 ∷ [])) ≡ says 578437695752307201 (refused 17 0 0))
+    × (verdict_of (header_of (255 ∷ 255 ∷ 255 ∷ 255 ∷ 255 ∷ 255 ∷ 255 ∷ 255 ∷ [])) ≡ says 18446744073709551615 (refused 17 0 0))
+    × (verdict_of (82 ∷ 86 ∷ 0 ∷ 2 ∷ 0 ∷ 0 ∷ 0 ∷ 0 ∷ 9 ∷ 0 ∷ 0 ∷ 0 ∷ 1 ∷ 0 ∷ 0 ∷ 0 ∷ []) ≡ says 4294967305 (refused 17 0 0))
+    × (verdict_of (82 ∷ 86 ∷ 0 ∷ 3 ∷ 0 ∷ 0 ∷ 0 ∷ 0 ∷ 9 ∷ 0 ∷ 0 ∷ 0 ∷ 1 ∷ 0 ∷ 0 ∷ 0 ∷ []) ≡ says 0 (refused 15 0 0))
+    × (verdict_of (header 7 ++ header_of (1 ∷ 2 ∷ 3 ∷ 4 ∷ 5 ∷ 6 ∷ 7 ∷ 8 ∷ [])) ≡ says 7 (refused 15 1 16))
 unfolding verdict_of judged_from read_of judged end_of next_at record_of
 seeds = (refl, refl, refl, refl, refl, refl)
 
@@ -73,24 +71,24 @@ seeds = (refl, refl, refl, refl, refl, refl)
 pub editions :
     (verdict_of (edition_of 1 7) ≡ says 7 (Agrees 0))
     × (verdict_of (edition_of 2 9) ≡ says 9 (Agrees 0))
-    × (verdict_of (edition_of 0 9) ≡ says 0 (refused NoRecord 0 0))
-    × (verdict_of (edition_of 3 9) ≡ says 0 (refused NoRecord 0 0))
-    × (verdict_of (edition_of 255 9) ≡ says 0 (refused NoRecord 0 0))
-    × (verdict_of (edition_of 1 7 ++ edition_of 2 9) ≡ says 7 (refused NoRecord 1 16))
+    × (verdict_of (edition_of 0 9) ≡ says 0 (refused 15 0 0))
+    × (verdict_of (edition_of 3 9) ≡ says 0 (refused 15 0 0))
+    × (verdict_of (edition_of 255 9) ≡ says 0 (refused 15 0 0))
+    × (verdict_of (edition_of 1 7 ++ edition_of 2 9) ≡ says 7 (refused 15 1 16))
 unfolding verdict_of judged_from read_of judged end_of next_at record_of
 editions = (refl, refl, refl, refl, refl, refl)
 
 -- No byte; a seed of 0; the header alone; the walk; its last record with released 0; a byte behind it; the start with another running task, behind which
 -- nothing is looked at; and a record without the mark.
 pub worked :
-    (verdict_of [] ≡ says 0 (refused NoRecord 0 0))
-    × (verdict_of (header 0) ≡ says 0 (refused Seed 0 0))
+    (verdict_of [] ≡ says 0 (refused 15 0 0))
+    × (verdict_of (header 0) ≡ says 0 (refused 17 0 0))
     × (verdict_of (header 7) ≡ says 7 (Agrees 0))
     × (verdict_of (walk 2 1) ≡ says 7 (Agrees 16))
     × (verdict_of (walk 2 0) ≡ says 7 (Differs (record { number = 16; command = cmd 8 1 1 0; tape = keeps 0 3 0; rules = keeps 0 3 1 })))
-    × (verdict_of (walk 2 1 ++ (82 ∷ [])) ≡ says 7 (refused NoRecord 17 272))
+    × (verdict_of (walk 2 1 ++ (82 ∷ [])) ≡ says 7 (refused 15 17 272))
     × (verdict_of (walk 1 0 ++ (82 ∷ [])) ≡ says 7 (Differs (record { number = 5; command = cmd 3 0 0 0; tape = keeps 0 1 0; rules = keeps 0 2 0 })))
-    × (verdict_of (set_up ++ (86 ∷ 82 ∷ []) ++ between) ≡ says 7 (refused NoRecord 5 80))
+    × (verdict_of (set_up ++ (86 ∷ 82 ∷ []) ++ between) ≡ says 7 (refused 15 5 80))
 unfolding verdict_of judged_from read_of judged end_of next_at record_of all_below rules.answer rules.next rules.released refusal carry leave release
 worked = (refl, refl, refl, refl, refl, refl, refl, refl)
 

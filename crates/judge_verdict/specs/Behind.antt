@@ -1,8 +1,5 @@
 -- Where a judge stands behind a record, and what it says at the end of a tape.
 use Rattle.std.specs.Prelude.{ℕ, ◌+◌, ◌-◌, ◌*◌, ◌/◌, ◌%◌, ◌^◌, Bool, true, false, cond, not, ◌||◌, eqb, ltb, Option, Some, None}
-use Rattle.rules.specs.declared.Refusal.{Refusal}
-use Rattle.rules.specs.declared.Refusal.TheVariants.{Record as NoRecord}
-use Rattle.rules.specs.Numbers.{number_of}
 use Rattle.record.specs.declared.Record.{Record}
 use Rattle.record_kept.specs.declared.Kept.{Kept}
 use Rattle.record_kept.specs.Kept.{kept_on, alike}
@@ -20,13 +17,13 @@ abbrev pub place_of : ℕ → ℕ
 place_of n = 16 * (n % 2 ^ 60)
 
 -- A refusal at a place: the record's number is a sixteenth of it.
-abbrev pub refused_at : Refusal → ℕ → Verdict
-refused_at e place = Malformed (record { refusal = e; number = place / 16; place = place })
+abbrev pub refused_at : ℕ → ℕ → Verdict
+refused_at code place = Malformed (record { code = code; number = place / 16; place = place })
 
 -- A record of that value is refused.
-abbrev pub refused : Head → Refusal → ℕ → Head
-refused h e value =
-    record { place = h.place; seed = seed_shown (number_of e) value h.seed; verdict = Some (refused_at e h.place) }
+abbrev pub refused : Head → ℕ → ℕ → Head
+refused h code value =
+    record { place = h.place; seed = seed_shown code value h.seed; verdict = Some (refused_at code h.place) }
 
 -- A header: its seed is kept to be shown.
 abbrev pub headed : Head → ℕ → Head
@@ -47,5 +44,5 @@ to_come (Some v) = false
 -- The verdict at the end, with so many bytes behind the last record: a record that is not whole is 15, and so is a
 -- tape without a header.
 abbrev pub at_end : Option Verdict → ℕ → ℕ → Verdict
-at_end None place count = cond (ltb place 16 || not (eqb count 0)) (refused_at NoRecord place) (Agrees (place / 16 - 1))
+at_end None place count = cond (ltb place 16 || not (eqb count 0)) (refused_at 15 place) (Agrees (place / 16 - 1))
 at_end (Some v) place count = v

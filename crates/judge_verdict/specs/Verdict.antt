@@ -32,7 +32,7 @@ difference n r k = Differs (record { number = n; command = command_shown r; tape
 abbrev pub verdict_number : Verdict → ℕ
 verdict_number (Agrees k) = 0
 verdict_number (Differs d) = 255
-verdict_number (Malformed e) = refusals.number_of e.refusal
+verdict_number (Malformed e) = e.code
 
 -- And its values: how many command records there are; the record's number, place and command, with the answer on the
 -- tape and the rules'; the record's number and place.
@@ -62,7 +62,7 @@ seed_shown code value seed = cond (eqb code 17) value seed
 unfoldable pub judged_from : Machine → ℕ → ℕ → List Read → Judgement
 judged_from m n seed [] = record { seed = seed; verdict = Agrees (n - 1) }
 judged_from m n seed (Err e ∷ l) =
-    record { seed = seed; verdict = Malformed (record { refusal = e; number = n; place = 16 * n }) }
+    record { seed = seed; verdict = Malformed (record { code = refusals.number_of e; number = n; place = 16 * n }) }
 judged_from m n seed (Ok None ∷ l) = record { seed = seed; verdict = Agrees (n - 1) }
 judged_from m n seed (Ok (Some (r, at)) ∷ l) =
     cond (eqb n 0) (judged_from m 1 r.value l)

@@ -4,7 +4,6 @@
 
 pub use kernel_checks::Command;
 pub use record_kept::Kept;
-use rules::Refusal;
 
 // The first record that differs: its number (the header is 0), its command, and of the answers what a record keeps:
 // the tape's, and the rules'.
@@ -16,10 +15,11 @@ pub struct Difference {
     pub rules: Kept,
 }
 
-// The refusal as the reader gives it, Record (15) or Seed (17), the record's number, and its byte place.
+// 15 or 17 as the reader gives them, the record's number, and its byte place.
+// Kept (promise): any number fits: what is asked of a judgement answers every one, whoever made it.
 #[derive(Clone, Copy)]
 pub struct RefusedAt {
-    pub refusal: Refusal,
+    pub code: u8,
     pub number: usize,
     pub place: usize,
 }

@@ -28,9 +28,7 @@ use Rattle.judge_verdict.specs.declared.Verdict.{Verdict}
 use Rattle.judge_verdict.specs.declared.Verdict.TheVariants.{Agrees, Refused as Malformed}
 use Rattle.judge_verdict.specs.declared.Judgement.{Judgement}
 use Rattle.std.specs.Prelude.{Option, Some, None, Ok, Err, is_some}
-use Rattle.rules.specs.declared.Refusal.{Refusal}
-use Rattle.rules.specs.declared.Refusal.TheVariants.{Record as NoRecord, Seed}
-use Rattle.rules.specs.Numbers as refusals
+use Rattle.rules.specs.declared.Refusal.TheVariants.{Record as NoRecord}
 use Rattle.judge_verdict.specs.declared.Head.{Head}
 use Rattle.judge_pieces.specs.declared.Run.{Run}
 use Rattle.judging.specs.declared.Judge.{Judge}
@@ -94,7 +92,7 @@ abbrev over : Machine → ℕ → ℕ → Verdict → Run
 over m n seed v = record { kernel = encode m; place = 16 * n; seed = seed; verdict = Some v }
 
 -- the same where the record is refused
-abbrev stopped : Machine → ℕ → ℕ → Refusal → ℕ → Run
+abbrev stopped : Machine → ℕ → ℕ → ℕ → ℕ → Run
 stopped m n seed c v = run_of (encode m) (refused (head_of (going m n seed)) c v)
 
 sixteenth : (n : ℕ) → 16 * n / 16 ≡ n
@@ -128,12 +126,12 @@ Tied f =
     → judged_behind m n seed back ≡ judged_from m n (seed_at (front ++ back) (16 * n) seed) (answers f (front ++ back) (16 * n))
 
 module _ (m : Machine) (n seed : ℕ) where
-  refused_behind : (c : Refusal) (v : ℕ) (q : List ℕ) → ended (judge_of (bytes (record { run = stopped m n seed c v; begun = [] }) q))
-      ≡ record { seed = seed_shown (refusals.number_of c) v seed; verdict = Malformed (record { refusal = c; number = n; place = 16 * n }) }
+  refused_behind : (c v : ℕ) (q : List ℕ) → ended (judge_of (bytes (record { run = stopped m n seed c v; begun = [] }) q))
+      ≡ record { seed = seed_shown c v seed; verdict = Malformed (record { code = c; number = n; place = 16 * n }) }
   refused_behind c v q = over_ends (stopped m n seed c v) q (refused_at c (16 * n)) refl ∙ rw (sixteenth n)
 
   cut_behind : (back : List ℕ) → 1 ≤ length back → length back ≤ 15 → judged_behind m n seed back
-      ≡ record { seed = seed; verdict = Malformed (record { refusal = NoRecord; number = n; place = 16 * n }) }
+      ≡ record { seed = seed; verdict = Malformed (record { code = 15; number = n; place = 16 * n }) }
   unfolding ended
   cut_behind back o k =
       let z : eqb (length back) 0 ≡ false = ne_eqb (length back) 0 (λ e. omega arith) in
@@ -141,7 +139,7 @@ module _ (m : Machine) (n seed : ℕ) where
 
 -- no byte is left
 end_behind : (m : Machine) (n seed : ℕ) → judged_behind m n seed []
-    ≡ record { seed = seed; verdict = cond (eqb n 0) (Malformed (record { refusal = NoRecord; number = n; place = 16 * n })) (Agrees (n - 1)) }
+    ≡ record { seed = seed; verdict = cond (eqb n 0) (Malformed (record { code = 15; number = n; place = 16 * n })) (Agrees (n - 1)) }
 unfolding ended bytes
 end_behind m zero seed = refl
 end_behind m (suc n) seed =
@@ -164,7 +162,7 @@ answered_is m s n seed r o =
 
 end_read : (m : Machine) (n seed v : ℕ) (t : Bool) (l : List Read)
     → judged_from m n (seed_shown (number_of (cond t (Err NoRecord) (Ok None))) v seed) (cond t (Err NoRecord) (Ok None) ∷ l)
-    ≡ record { seed = seed; verdict = cond t (Malformed (record { refusal = NoRecord; number = n; place = 16 * n })) (Agrees (n - 1)) }
+    ≡ record { seed = seed; verdict = cond t (Malformed (record { code = 15; number = n; place = 16 * n })) (Agrees (n - 1)) }
 unfolding judged_from
 end_read m n seed v true l = refl
 end_read m n seed v false l = refl
@@ -254,8 +252,8 @@ module _ (f : ℕ) (ih : Tied f) (m : Machine) (snd : Sound m) (n seed : ℕ) (f
     unfolding taken judged_from
     turned (found w l z) = found_behind (record_of (take 16 (drop (16 * n) (front ++ back))))
     turned (end w l z) = absurd (omega (arith, long))
-    turned no_record = refused_behind m n seed NoRecord (record_of (take 16 back)).value (drop 16 back)
-    turned (no_seed z l) = refused_behind m n seed Seed (record_of (take 16 back)).value (drop 16 back)
+    turned no_record = refused_behind m n seed 15 (record_of (take 16 back)).value (drop 16 back)
+    turned (no_seed z l) = refused_behind m n seed 17 (record_of (take 16 back)).value (drop 16 back)
 
     onward_is : (p : List ℕ) → onward (going m n seed) p ≡ taken (going m n seed) p (judged (16 * n) p)
     unfolding onward

@@ -8,9 +8,31 @@ ghost use Rattle.kernel.specs.Public.{Ends, to_rules, is_sound, step_of, running
 ghost use Rattle.kernel.specs.Step as step;
 
 use crate::command::Answer;
-use crate::in_place::{accepted, refused};
 use kernel_checks::{Command, Kind};
 use kernel_line::{POId, TaskID};
+use rules::Refusal;
+
+// The answer to a refused command: its number, who runs, and nobody released.
+fn refused(code: u8, running: TaskID) -> Answer
+    ensures { result ≡ step.refused code running.0 }
+{
+    Answer {
+        code,
+        running,
+        released: TaskID(0),
+    }
+}
+
+// The answer to an accepted command: who runs behind it, and who is released.
+fn accepted(running: TaskID, released: u8) -> Answer
+    ensures { result ≡ step.accepted running.0 released }
+{
+    Answer {
+        code: 0,
+        running,
+        released: TaskID(released),
+    }
+}
 
 // An accepted command, carried out: the released task, 0 for nobody.
 fn carry(
@@ -71,20 +93,19 @@ pub fn step_trusting(
 {
     let tops = *ceiling;
     let waits = *waiter;
-    let k = c.kind();
+    let kind = c.kind();
     let checked = kernel_checks::checked(
-        base, ready, held, way, tops, waits, *clock, *started, k, c,
+        base, ready, held, way, tops, waits, *clock, *started, kind, c,
     );
-    let code = rules::code(checked);
-    if code != 0 {
-        let shown = kernel_ready::running(*started, ready);
-        return refused(code, shown);
+    match checked {
+        Err(refusal) => refused(refusal.number(), kernel_ready::running(*started, ready)),
+        Ok(()) => {
+            let released = carry(
+                base, ready, delayed, held, way, until, ceiling, waiter, clock, started, kind, c,
+            );
+            accepted(kernel_ready::running(*started, ready), released)
+        }
     }
-    let t = carry(
-        base, ready, delayed, held, way, until, ceiling, waiter, clock, started, k, c,
-    );
-    let shown = kernel_ready::running(*started, ready);
-    accepted(shown, t)
 }
 
 // What the types of lent tables say, told to the logic: it knows the length of an array that is looked at as a slice,
@@ -154,7 +175,7 @@ pub fn step(
     if !sound(
         base, ready, delayed, held, way, until, tops, waits, *clock, *started,
     ) {
-        return refused(1, TaskID(0));
+        return refused(Refusal::Shape.number(), TaskID(0));
     }
     step_trusting(
         base, ready, delayed, held, way, until, ceiling, waiter, clock, started, c,

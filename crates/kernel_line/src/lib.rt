@@ -104,7 +104,13 @@ pub fn lead_task(line: [u8; 32], t: TaskID) -> u8
 pub fn holders(held: &[u8; 32], o: POId) -> u8
     ensures { result ≡ count o.0 held.now }
 {
-    held.iter().filter(|x| o.0 == **x).count() as u8
+    let mut n = 0u8;
+    for x in held {
+        if o.0 == *x {
+            n += 1;
+        }
+    }
+    n
 }
 
 // One more, up to what a byte holds.

@@ -13,7 +13,7 @@ mod hint;
 
 use crate::hint::hint_zeros;
 use programs_flow::{Program, Went, over_pieces, write_whole};
-use programs_hint::Hinting;
+use programs_hint::hinted;
 use session_draw::{Printed, Reader, begin, draw_some, feed, finish, header};
 use session_stage::{DRAWING, DrawRun, FIRST_LINE, OVER};
 use std::io::{Print, Read, Write};
@@ -90,24 +90,37 @@ impl Program<PIECE, LENT> for Drawing {
         (d.stage < DRAWING) & !((d.stage == FIRST_LINE) & (129 <= held.count))
     }
 
-    fn put_header(&self, out: &mut [u8]) -> usize {
+    fn put_header(&self, out: &mut [u8; LENT]) -> usize {
         header(out)
     }
 
-    fn feed(&self, r: Reader, piece: &[u8], out: &mut [u8]) -> (Reader, usize) {
-        let f = feed(r, piece, out);
+    fn remark<E: Print>(&self, errors: &E, given: bool, piece: &[u8]) -> bool {
+        hinted(errors, given, piece)
+    }
+
+    fn feed(
+        &self,
+        r: Reader,
+        piece: &[u8; PIECE],
+        n: usize,
+        out: &mut [u8; LENT],
+    ) -> (Reader, usize) {
+        let f = feed(r, &piece[..n.min(piece.len())], out);
         (f.reader, f.at)
     }
 
-    // The end of the input, and the draws.
+    // The end of the input, and the draws. Where a read or a write has failed there are none.
     fn conclude<W: Write, E: Print>(
         &self,
         output: &mut W,
         errors: &E,
         r: Reader,
         read: Went,
-        out: &mut [u8],
+        out: &mut [u8; LENT],
     ) -> Went {
+        if read.has_failed() {
+            return read;
+        }
         let f = put_end(r, out);
         let ended = write_whole(read, output, errors, &out[..f.at]);
         if f.run.stage == OVER {
@@ -126,12 +139,7 @@ fn work<R: Read, W: Write, E: Print>(from: &mut R, output: &mut W, errors: &E) -
     ensures { loops.Whole draws.piece_behind draw_wants draws.at_first (λ ps. draw_header ++ draws.printed
         draws.at_first ps) result }
 {
-    let mut hinting = Hinting {
-        from,
-        errors,
-        given: false,
-    };
-    let (_, went) = over_pieces(&Drawing, &mut hinting, output, errors);
+    let (_, went) = over_pieces(&Drawing, from, output, errors);
     went
 }
 

@@ -1,12 +1,13 @@
--- What was put where there was room for it stands at the front. Assumes nothing.
-use Prim.Native.Nat.{ℕ, ◌+◌, ◌≤◌}
+-- What was put where there was room for it stands at the front; and the front of a piece. Assumes nothing.
+use Prim.Native.Nat.{ℕ, ◌+◌, ◌≤◌, min}
 use native.Mathlib.Omega.{arith}
 use mathlib.Core.Bool.{cond}
-use mathlib.Core.Path.{◌≡◌, refl, ap, ◌∙◌}
+use mathlib.Core.Path.{◌≡◌, refl, ap, sym, ◌∙◌}
 use mathlib.Core.List.{List, [], ◌∷◌, ◌++◌}
 use borrow.Author.Tests.{le-leb}
 use lib.Dec.{leb}
 use lib.ListN.{length, take, drop}
+use Rattle.std.proofs.lemmas.List.{take_min, length-take}
 use lib.Seq.{sets, length-sets, sets-eq}
 use Rattle.programs_flow.specs.Loops.{Put}
 
@@ -32,3 +33,11 @@ pub put_roomy : (room : ℕ) (text out left : List ℕ) (at : ℕ) → room ≤ 
 put_roomy room text out left at o a l n =
     let e = a ∙ with_room (0 + room) out (0 + length text) 0 (omega (arith, o)) in
     put_front out left text at (l ∙ with_room (0 + room) out (sets out 0 text) out (omega (arith, o))) (omega (arith, e)) n
+
+-- ---- the front of a piece: its first n bytes, or all of them
+
+pub front_fits : (p : List ℕ) (n m : ℕ) → length p ≡ m → length (take n p) ≤ m
+front_fits p n m l = omega (arith, l, length-take n p)
+
+pub front_same : (p : List ℕ) (n m k : ℕ) → length p ≡ m → k ≡ min n m → take k p ≡ take n p
+front_same p n m k l e = ap (λ (i : ℕ). take i p) (e ∙ ap (min n) (sym l)) ∙ take_min n p

@@ -1,7 +1,6 @@
 // The loop of every program that reads its input in pieces: the header, the pieces, the end.
-ghost use Rattle.std.specs.Prelude.{◌^◌, ◌<◌, ◌≤◌, ◌≡◌, ℕ, Bool, false, List, [], ◌∷◌, ◌++◌, length};
+ghost use Rattle.std.specs.Prelude.{◌^◌, ◌<◌, ◌≡◌, ℕ, Bool, true, List, [], ◌∷◌, ◌++◌, length, take};
 ghost use Rattle.std.specs.Counts.{IsPrefixLen};
-ghost use Rattle.programs_flow.specs.Flow as flow;
 ghost use Rattle.programs_flow.specs.Loops as loops;
 
 use crate::{Went, read_piece, write_whole};
@@ -33,16 +32,27 @@ pub trait Program<const N: usize, const M: usize> {
     fn wants(&self, s: Self::Stand) -> bool
         ensures { result ≡ wants self.now s };
 
-    fn put_header(&self, out: &mut [u8]) -> usize
-        requires { M ≡ length out.old }
-        ensures { loops.Put result out.new header × IsPrefixLen result out.new };
+    fn put_header(&self, out: &mut [u8; M]) -> usize
+        ensures { loops.Put result out.new header × IsPrefixLen result out.new × (length out.new ≡ M) };
 
-    fn feed(&self, s: Self::Stand, piece: &[u8], out: &mut [u8]) -> (Self::Stand, usize)
-        requires { (length piece.now ≤ N) × (M ≡ length out.old) }
-        ensures { (result.0 ≡ after s piece.now) × loops.Put result.1 out.new (text self.now s piece.now)
-            × IsPrefixLen result.1 out.new };
+    // A look at the piece that was read, for a hint on standard error; nothing else comes of it. It answers whether the
+    // hint is given: now, or before, and then it stays so.
+    fn remark<E: Print>(&self, errors: &E, given: bool, piece: &[u8]) -> bool
+        ensures { given ≡ true → result ≡ true };
 
-    // What is printed at the end of the input, where nothing has failed.
+    // The piece that was read is the first n bytes, or all of them.
+    fn feed(
+        &self,
+        s: Self::Stand,
+        piece: &[u8; N],
+        n: usize,
+        out: &mut [u8; M],
+    ) -> (Self::Stand, usize)
+        ensures { (result.0 ≡ after s (take n piece.now))
+            × loops.Put result.1 out.new (text self.now s (take n piece.now))
+            × IsPrefixLen result.1 out.new × (length out.new ≡ M) };
+
+    // What is printed at the end of the input. Where a read or a write has failed there is nothing more.
     // Kept (plain): input, output and errors do not always travel together: here no input is lent.
     fn conclude<W: Write, E: Print>(
         &self,
@@ -50,10 +60,9 @@ pub trait Program<const N: usize, const M: usize> {
         errors: &E,
         s: Self::Stand,
         read: Went,
-        out: &mut [u8],
+        out: &mut [u8; M],
     ) -> Went
-        requires { (flow.has_failed read.state ≡ false) × (M ≡ length out.old) }
-        ensures { flow.Took (length (printed self.now s [])) read.state read result };
+        ensures { loops.Concluded (printed self.now s []) read result };
 
     // A slice has no more bytes than that.
     ghost fits: { (N < 2 ^ 63) × (M < 2 ^ 63) };
@@ -63,7 +72,7 @@ pub trait Program<const N: usize, const M: usize> {
         → printed x s (p ∷ ps) ≡ text x s p ++ printed x (after s p) ps };
 }
 
-// One read, what is printed for it, one write.
+// One read, a look at what it brought, what is printed for it, one write.
 fn one_piece<const N: usize, const M: usize, P: Program<N, M>, R: Read, W: Write, E: Print>(
     program: &P,
     from: &mut R,
@@ -71,19 +80,21 @@ fn one_piece<const N: usize, const M: usize, P: Program<N, M>, R: Read, W: Write
     errors: &E,
     s: P::Stand,
     was: Went,
-    piece: &mut [u8],
-    out: &mut [u8],
-) -> (P::Stand, Went)
-    requires { (length piece.old ≤ N) × (M ≡ length out.old) }
+    given: bool,
+    piece: &mut [u8; N],
+    out: &mut [u8; M],
+) -> (P::Stand, Went, bool)
     ensures { loops.Turned P.after (P.text program.now) s result.0 was result.1 piece.new out.new }
 {
     let came = read_piece(was, from, errors, piece);
     if !came.goes_on() {
-        return (s, came);
+        return (s, came, given);
     }
     let n = came.brought();
-    let (behind, at) = program.feed(s, &piece[..n], out);
-    (behind, write_whole(came, output, errors, &out[..at]))
+    let given = program.remark(errors, given, &piece[..n]);
+    let (behind, at) = program.feed(s, piece, n, out);
+    let wrote = write_whole(came, output, errors, &out[..at]);
+    (behind, wrote, given)
 }
 
 // Nothing says that the input ends, so the turns are counted.
@@ -93,19 +104,19 @@ fn all_pieces<const N: usize, const M: usize, P: Program<N, M>, R: Read, W: Writ
     output: &mut W,
     errors: &E,
     headed: Went,
-    piece: &mut [u8],
-    out: &mut [u8],
+    piece: &mut [u8; N],
+    out: &mut [u8; M],
 ) -> (P::Stand, Went)
-    requires { (length piece.old ≤ N) × (M ≡ length out.old) }
     ensures { loops.Looped P.after (P.text program.now) (P.wants program.now) P.first result.0 headed result.1 }
 {
     let mut s = program.begin();
     let mut went = headed;
+    let mut given = false;
     for _ in 0..u64::MAX {
         if !went.goes_on() || !program.wants(s) {
             break;
         }
-        (s, went) = one_piece(program, from, output, errors, s, went, piece, out);
+        (s, went, given) = one_piece(program, from, output, errors, s, went, given, piece, out);
     }
     (s, went)
 }
@@ -125,8 +136,5 @@ pub fn over_pieces<const N: usize, const M: usize, P: Program<N, M>, R: Read, W:
     let head = program.put_header(&mut out);
     let headed = write_whole(Went::going(), output, errors, &out[..head]);
     let (s, read) = all_pieces(program, from, output, errors, headed, &mut piece, &mut out);
-    if read.has_failed() {
-        return (s, read);
-    }
     (s, program.conclude(output, errors, s, read, &mut out))
 }

@@ -4,8 +4,7 @@
 ghost use Rattle.std.specs.Prelude.{◌≡◌, ◌||◌};
 ghost use Rattle.rules.specs.Line.{among};
 
-use std::io;
-use std::io::{Print, Read};
+use std::io::Print;
 
 // Whether a byte 13 stands in a piece.
 #[tactic(auto, using(crate::proofs::Returns::looked_for))]
@@ -30,20 +29,4 @@ pub fn hinted<E: Print>(errors: &E, given: bool, piece: &[u8]) -> bool
         b"hint: a byte 13 (carriage return) stands in the input. A line ends in byte 10 alone, and one with a 13 in it is refused with 14. Take the 13s out, as by: tr -d '\\r' <FILE\n",
     );
     true
-}
-
-// An input beside which the hint is given: each read of it is a read of what lies behind.
-#[derive(Drop)]
-pub struct Hinting<'a, R, E> {
-    pub from: &'a mut R,
-    pub errors: &'a E,
-    pub given: bool,
-}
-
-impl<R: Read, E: Print> Read for Hinting<'_, R, E> {
-    fn read(&mut self, piece: &mut [u8]) -> io::Result<usize> {
-        let count = self.from.read(piece)?;
-        self.given = hinted(self.errors, self.given, &piece[..count]);
-        Ok(count)
-    }
 }

@@ -53,23 +53,37 @@ impl Program<PIECE, LENT> for Judging {
         j.goes_on()
     }
 
-    fn put_header(&self, _out: &mut [u8]) -> usize {
+    fn put_header(&self, _out: &mut [u8; LENT]) -> usize {
         0
     }
 
-    fn feed(&self, j: Judge, piece: &[u8], _out: &mut [u8]) -> (Judge, usize) {
-        (j.feed(piece), 0)
+    // Of a piece of a tape there is nothing to say.
+    fn remark<E: Print>(&self, _errors: &E, given: bool, _piece: &[u8]) -> bool {
+        given
     }
 
-    // The report. (Where a read failed the tape is not known, and nothing is said of it.)
+    fn feed(
+        &self,
+        j: Judge,
+        piece: &[u8; PIECE],
+        n: usize,
+        _out: &mut [u8; LENT],
+    ) -> (Judge, usize) {
+        (j.feed(&piece[..n.min(piece.len())]), 0)
+    }
+
+    // The report. Where a read failed the tape is not known, and nothing is said of it.
     fn conclude<W: Write, E: Print>(
         &self,
         output: &mut W,
         errors: &E,
         j: Judge,
         read: Went,
-        out: &mut [u8],
+        out: &mut [u8; LENT],
     ) -> Went {
+        if read.has_failed() {
+            return read;
+        }
         let n = put_judgement(j.end(), out);
         write_whole(read, output, errors, &out[..n])
     }

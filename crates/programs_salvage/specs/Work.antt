@@ -7,14 +7,14 @@
 -- one that syncs another file, or none; one that leaves a file behind where it fails, names another one or none, or
 -- replaces one that is there; one that opens the old tape for writing; one that answers 2 or 3 though nothing failed;
 -- one that tells its progress where there is no terminal, or never.
-use Rattle.std.specs.Prelude.{ℕ, ◌+◌, ◌-◌, ◌/◌, true, ◌≡◌, List, [], ◌++◌, ◌⊎◌, length, Option, option_to_list}
+use Rattle.std.specs.Prelude.{ℕ, ◌+◌, ◌-◌, ◌/◌, true, ◌≡◌, List, [], ◌++◌, ◌⊎◌, length}
 use Rattle.programs_flow.specs.declared.State.TheVariants.{GoesOn, Ended}
 use Rattle.programs_flow.specs.declared.Went.{Went}
 use Rattle.programs_flow.specs.Flow.{has_failed}
 use Rattle.programs_flow.specs.Loops.{After, Text, NoneEmpty}
 use Rattle.salvage_marks.specs.declared.Torn.{Torn}
 use Rattle.salvage_marks.specs.declared.Stretch.{Stretch}
-use Rattle.salvage_marks.specs.Torn.{kept, dropped, found, headed, cells, total}
+use Rattle.salvage_marks.specs.Torn.{kept, dropped, found, headed, cells, total, closed}
 use Rattle.salvage_marks.specs.Pieces.{at_first, written, listed, after, held, last_of}
 use Rattle.rules.specs.Line.{joined}
 use Rattle.salvage_text.specs.Lines.{list_text, last_text}
@@ -51,9 +51,9 @@ then s p =
 
 -- ---- the end
 
--- The numbers of the last stretch: none where there is none.
-abbrev pub numbers_of : Option Stretch → List ℕ
-numbers_of x = cells (option_to_list x)
+-- The numbers of the last stretch: none where it is empty.
+abbrev pub numbers_of : Stretch → List ℕ
+numbers_of x = cells (closed x.first (x.first + x.size) [])
 
 -- The last line: how many bytes were kept, 16 a record, and how many of all were not.
 abbrev pub last_line : Torn → ℕ → ℕ → List ℕ

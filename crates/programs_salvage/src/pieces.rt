@@ -236,13 +236,12 @@ fn write_stretch<W: Write, E: Print>(
     requires { 70 ≤ length text.old }
     ensures { Took (length (list_text (numbers_of (last_of s.torn s.held)))) w.state w result }
 {
-    match last_stretch(s.torn, s.held) {
-        None => w,
-        Some(x) => {
-            let n = put_dropped(text, &[x.first, x.size]);
-            write_whole(w, output, errors, &text[..n])
-        }
+    let x = last_stretch(s.torn, s.held);
+    if x.size == 0 {
+        return w;
     }
+    let n = put_dropped(text, &[x.first, x.size]);
+    write_whole(w, output, errors, &text[..n])
 }
 
 fn write_last<W: Write, E: Print>(

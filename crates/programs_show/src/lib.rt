@@ -2,15 +2,18 @@
 // the state behind it.
 #![tactic(auto)]
 
-ghost use Rattle.std.specs.Prelude.{◌≡◌, refl};
+ghost use Rattle.std.specs.Prelude.{◌≡◌, refl, length};
 ghost use Rattle.std.proofs.Common.{rules};
 ghost use Rattle.text.specs.Printed.{walk_header};
+ghost use Rattle.decimal.specs.Buffer.{InFront};
 ghost use Rattle.show_text.specs.Show as shows;
+ghost use Rattle.show_text.specs.Show.{last_text, show_lent};
+ghost use Rattle.programs_flow.specs.Loops as loops;
 ghost use Rattle.programs_show.specs.Work.{Shown, ShownOrFailed, DoneRefusedFailed};
 
 use decimal_print::put_decimal;
 use programs_flow::{Program, Went, over_pieces, refused, write_whole};
-use programs_hint::Hinting;
+use programs_hint::hinted;
 use session_show::{Showing, begin, feed, finish, lines_seen, wants};
 use session_walk::header;
 use std::env::FillError;
@@ -21,6 +24,14 @@ use std::rt::Env;
 const PIECE: usize = 15;
 
 const LENT: usize = 65536;
+
+// Where out is the one that is lent, there is room for a last line.
+fn put_last(w: Showing, only: u64, out: &mut [u8]) -> usize
+    requires { show_lent ≡ length out.old }
+    ensures { loops.Put result out.new (last_text only w) × InFront result out.new }
+{
+    finish(w, only, out)
+}
 
 // Of all lines (0), or of the one that is asked for.
 #[derive(Drop)]
@@ -52,25 +63,38 @@ impl Program<PIECE, LENT> for Show {
         wants(self.only, w)
     }
 
-    fn put_header(&self, out: &mut [u8]) -> usize {
+    fn put_header(&self, out: &mut [u8; LENT]) -> usize {
         header(out)
     }
 
-    fn feed(&self, w: Showing, piece: &[u8], out: &mut [u8]) -> (Showing, usize) {
-        let f = feed(w, self.only, piece, out);
+    fn remark<E: Print>(&self, errors: &E, given: bool, piece: &[u8]) -> bool {
+        hinted(errors, given, piece)
+    }
+
+    fn feed(
+        &self,
+        w: Showing,
+        piece: &[u8; PIECE],
+        n: usize,
+        out: &mut [u8; LENT],
+    ) -> (Showing, usize) {
+        let f = feed(w, self.only, &piece[..n.min(piece.len())], out);
         (f.showing, f.at)
     }
 
-    // A last line without a line end counts.
+    // A last line without a line end counts. Where a read or a write has failed there is none.
     fn conclude<W: Write, E: Print>(
         &self,
         output: &mut W,
         errors: &E,
         w: Showing,
         read: Went,
-        out: &mut [u8],
+        out: &mut [u8; LENT],
     ) -> Went {
-        let last = finish(w, self.only, out);
+        if read.has_failed() {
+            return read;
+        }
+        let last = put_last(w, self.only, out);
         write_whole(read, output, errors, &out[..last])
     }
 
@@ -88,12 +112,7 @@ fn work<R: Read, W: Write, E: Print>(
 ) -> (Showing, Went)
     ensures { Shown only result.0 result.1 }
 {
-    let mut hinting = Hinting {
-        from,
-        errors,
-        given: false,
-    };
-    over_pieces(&Show { only }, &mut hinting, output, errors)
+    over_pieces(&Show { only }, from, output, errors)
 }
 
 // A number, on standard error.

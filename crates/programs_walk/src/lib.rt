@@ -1,14 +1,16 @@
 // The program walk: reads commands, one to a line, and prints a line for each.
 #![tactic(auto)]
 
-ghost use Rattle.std.specs.Prelude.{true, refl, ◌++◌};
+ghost use Rattle.std.specs.Prelude.{◌≡◌, true, refl, ◌++◌, length};
 ghost use Rattle.std.proofs.Common.{rules};
 ghost use Rattle.text.specs.Printed.{walk_header};
-ghost use Rattle.session_walk_text.specs.Walk.{at_first, text_for, walk_after, printed};
+ghost use Rattle.decimal.specs.Buffer.{InFront};
+ghost use Rattle.session_walk_text.specs.Walk.{at_first, text_for, walk_after, last_text, printed};
 ghost use Rattle.programs_flow.specs.Loops as loops;
+ghost use Rattle.session_walk_text.specs.Sizes.{walk_lent};
 
 use programs_flow::{Program, Went, over_pieces, write_whole};
-use programs_hint::Hinting;
+use programs_hint::hinted;
 use session_walk::{Walk, begin, feed, finish, header};
 use std::io::{Print, Read, Write};
 
@@ -16,6 +18,14 @@ use std::io::{Print, Read, Write};
 const PIECE: usize = 640;
 
 const LENT: usize = 82048;
+
+// Where out is the one that is lent, there is room for a last line.
+fn put_last(w: Walk, out: &mut [u8]) -> usize
+    requires { walk_lent ≡ length out.old }
+    ensures { loops.Put result out.new (last_text w) × InFront result out.new }
+{
+    finish(w, out)
+}
 
 struct Walking;
 
@@ -42,25 +52,32 @@ impl Program<PIECE, LENT> for Walking {
         true
     }
 
-    fn put_header(&self, out: &mut [u8]) -> usize {
+    fn put_header(&self, out: &mut [u8; LENT]) -> usize {
         header(out)
     }
 
-    fn feed(&self, w: Walk, piece: &[u8], out: &mut [u8]) -> (Walk, usize) {
-        let f = feed(w, piece, out);
+    fn remark<E: Print>(&self, errors: &E, given: bool, piece: &[u8]) -> bool {
+        hinted(errors, given, piece)
+    }
+
+    fn feed(&self, w: Walk, piece: &[u8; PIECE], n: usize, out: &mut [u8; LENT]) -> (Walk, usize) {
+        let f = feed(w, &piece[..n.min(piece.len())], out);
         (f.walk, f.at)
     }
 
-    // A last line without a line end counts.
+    // A last line without a line end counts. Where a read or a write has failed there is none.
     fn conclude<W: Write, E: Print>(
         &self,
         output: &mut W,
         errors: &E,
         w: Walk,
         read: Went,
-        out: &mut [u8],
+        out: &mut [u8; LENT],
     ) -> Went {
-        let last = finish(w, out);
+        if read.has_failed() {
+            return read;
+        }
+        let last = put_last(w, out);
         write_whole(read, output, errors, &out[..last])
     }
 
@@ -73,12 +90,7 @@ impl Program<PIECE, LENT> for Walking {
 fn work<R: Read, W: Write, E: Print>(from: &mut R, output: &mut W, errors: &E) -> Went
     ensures { loops.Whole walk_after (λ w. true) at_first (λ ps. walk_header ++ printed at_first ps) result }
 {
-    let mut hinting = Hinting {
-        from,
-        errors,
-        given: false,
-    };
-    let (_, went) = over_pieces(&Walking, &mut hinting, output, errors);
+    let (_, went) = over_pieces(&Walking, from, output, errors);
     went
 }
 

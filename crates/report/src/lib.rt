@@ -162,7 +162,7 @@ fn put_refusal(out: &mut [u8], at: usize, r: RefusedAt) -> usize
     requires { at + 86 ≤ length out.old }
     ensures { Put 86 out.old at (verdict_text (Refused r)) out.new result }
 {
-    let number = put_small(out, at, b"refused ", r.refusal.number());
+    let number = put_small(out, at, b"refused ", r.code);
     put_where(out, number, r.number, r.place)
 }
 

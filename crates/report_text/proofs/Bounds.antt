@@ -10,7 +10,6 @@ use lib.ListN.{length, get_or, length-append}
 use Rattle.rules.specs.Line.{every}
 use Rattle.rules.proofs.Tests.{both_true}
 use Rattle.kernel_checks.specs.declared.Command.{Command}
-use Rattle.rules.specs.Numbers.{number_of}
 use Rattle.record_kept.specs.declared.Kept.{Kept}
 use Rattle.decimal.proofs.BothWays.{decimal_most}
 use Rattle.text.specs.Commands.{words, operand_text, uses_a, uses_b, uses_value, line_of}
@@ -79,7 +78,7 @@ verdict_short : (v : Verdict) → length (verdict_text v) ≤ 428
 unfolding verdict_text
 verdict_short (Agrees k) = simp length-append (omega (arith, decimal_most k))
 verdict_short (Differs d) = difference_short d
-verdict_short (Refused r) = simp length-append (omega (arith, decimal_most (number_of r.refusal), at_short r.number r.place))
+verdict_short (Refused r) = simp length-append (omega (arith, decimal_most r.code, at_short r.number r.place))
 
 pub report_short : (j : Judgement) → length (report_text j) ≤ report_room
 unfolding report_text

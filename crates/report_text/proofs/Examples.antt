@@ -5,7 +5,6 @@ use Prim.Native.Nat.{ℕ}
 use mathlib.Core.Path.{◌≡◌, refl}
 use mathlib.Core.List.{List, ◌++◌}
 use Rattle.kernel_checks.specs.declared.Command.{Command}
-use Rattle.rules.specs.declared.Refusal.TheVariants.{Record as NoRecord}
 use Rattle.record_kept.specs.declared.Kept.{Kept}
 use Rattle.decimal.specs.Decimal.{decimal, decimal_in}
 use Rattle.text.specs.Words.{bytes}
@@ -42,7 +41,7 @@ unused : command_text (record { op = 4; a = 3; b = 2; value = 17 }) ≡ bytes "d
 unfolding command_text line_of decimal decimal_in
 unused = refl
 
-refusing : report_text (record { seed = 1; verdict = Refused (record { refusal = NoRecord; number = 10; place = 160 }) })
+refusing : report_text (record { seed = 1; verdict = Refused (record { code = 15; number = 10; place = 160 }) })
     ≡ bytes "seed 1\nrefused 15 at record 10, byte 160\n"
 unfolding report_text verdict_text stands_at decimal decimal_in
 refusing = refl

@@ -2,7 +2,6 @@
 use Rattle.std.specs.Prelude.{ℕ, List, ◌++◌}
 use Prim.Native.String.{String}
 use Rattle.kernel_checks.specs.declared.Command.{Command}
-use Rattle.rules.specs.Numbers.{number_of}
 use Rattle.record_kept.specs.declared.Kept.{Kept}
 use Rattle.decimal.specs.Decimal.{decimal}
 use Rattle.text.specs.Words.{bytes}
@@ -49,7 +48,7 @@ difference_text d =
 unfoldable pub verdict_text : Verdict → List ℕ
 verdict_text (Agrees k) = named "agrees: " k ++ bytes " command records"
 verdict_text (Differs d) = difference_text d
-verdict_text (Refused r) = named "refused " (number_of r.refusal) ++ stands_at r.number r.place
+verdict_text (Refused r) = named "refused " r.code ++ stands_at r.number r.place
 
 -- line 1, seed N, and line 2
 unfoldable pub report_text : Judgement → List ℕ

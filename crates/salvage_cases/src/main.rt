@@ -69,10 +69,8 @@ fn whole(tape: &[u8], out: &mut [u8], list: &mut [u64]) -> Got {
 
 // The last stretch, if there is one; how many numbers are listed then.
 fn close(t: Torn, held: usize, list: &mut [u64], cells: usize) -> usize {
-    let Some(x) = last_stretch(t, held) else {
-        return cells;
-    };
-    if list.len() < 2 || list.len() - 2 < cells {
+    let x = last_stretch(t, held);
+    if x.size == 0 || list.len() < 2 || list.len() - 2 < cells {
         return cells;
     }
     list[cells] = x.first;

@@ -225,14 +225,15 @@ one_closed from at = go (ltb from at)
     go true = refl
     go false = refl
 
-last_whole : (t : Torn) (h : List ℕ) (x : Option Stretch) → x ≡ last_of t (length h) → length h ≤ 15 → t.place + length h ≤ last_place
-    → WholeOf t (h ++ []) [] (cells (option_to_list x)) t.headed
+last_whole : (t : Torn) (h : List ℕ) (x : Stretch) → x ≡ last_of t (length h) → length h ≤ 15 → t.place + length h ≤ last_place
+    → WholeOf t (h ++ []) [] (cells (closed x.first (x.first + x.size) [])) t.headed
 unfolding last_of
 last_whole t h x e o p =
     let n : ends_at t.place (length h) ≡ t.place + length h = omega arith in
+    let y : opened t + (t.place + length h - opened t) ≡ t.place + length h = omega arith in
     rw (append-nil h) (
       rw (short_marks (eqb t.place 0) h o) (sym (pick_none h)),
-      rw (e, n, one_closed, short_marks (eqb t.place 0) h o) (ap cells (sym (one_stretch (length h) (opened t) t.place))),
+      rw (e, n, y, short_marks (eqb t.place 0) h o) (ap cells (sym (one_stretch (length h) (opened t) t.place))),
       rw (headed_short h (omega arith)) (or_none t.headed (eqb t.place 0)),
     )
 

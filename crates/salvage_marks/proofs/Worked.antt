@@ -5,7 +5,7 @@ use mathlib.Core.Path.{◌≡◌, refl}
 use mathlib.Core.Bool.{Bool, true, false}
 use mathlib.Core.List.{List, [], ◌∷◌, ◌++◌}
 use Rattle.record.specs.Form.{record_of}
-use Rattle.std.specs.Prelude.{Some, None, Ok, Err}
+use Rattle.std.specs.Prelude.{Ok, Err}
 use Rattle.rules.specs.declared.Refusal.TheVariants.{Room}
 use Rattle.salvage_marks.specs.declared.Torn.{Torn}
 use Rattle.salvage_marks.specs.Torn.{makes, marks, pick, closed, stretches, kept, dropped, found_on, found, headed, cells, fits, salvaged_of}
@@ -177,15 +177,15 @@ unfolding fed_of fed_fits written listed ahead ended makes pick closed cells rec
 past_last = refl
 
 -- The last stretch: with 7 bytes undecided, with none and nothing open, and where the sum would pass the last place.
-last : last_of on_way 7 ≡ Some (record { first = 45; size = 12 })
+last : last_of on_way 7 ≡ record { first = 45; size = 12 }
 unfolding last_of
 last = refl
 
-last_none : last_of (record { place = 35; from = 35; headed = true }) 0 ≡ None
+last_none : last_of (record { place = 35; from = 35; headed = true }) 0 ≡ record { first = 35; size = 0 }
 unfolding last_of
 last_none = refl
 
 last_capped : last_of (record { place = 18446744073709551613; from = 18446744073709551611; headed = false }) 9
-    ≡ Some (record { first = 18446744073709551611; size = 4 })
+    ≡ record { first = 18446744073709551611; size = 4 }
 unfolding last_of
 last_capped = refl

@@ -1,6 +1,6 @@
 -- The salvage of a tape that comes in pieces: what is decided of the bytes seen so far, and what waits for the next
 -- piece. Assumes nothing.
-use Rattle.std.specs.Prelude.{ℕ, zero, suc, ◌+◌, ◌-◌, ◌/◌, ◌≡◌, List, [], ◌∷◌, ◌++◌, Bool, true, false, cond, ◌&&◌, ◌||◌, length, take, drop, min, leb, ltb, eqb, Option, Some, None, option_to_list, Result, Ok, Err}
+use Rattle.std.specs.Prelude.{ℕ, zero, suc, ◌+◌, ◌-◌, ◌/◌, ◌≡◌, List, [], ◌∷◌, ◌++◌, Bool, true, false, cond, ◌&&◌, ◌||◌, length, take, drop, min, leb, ltb, eqb, Option, Some, None, Result, Ok, Err}
 use Rattle.std.proofs.lemmas.List.Edits.{sets}
 use Rattle.rules.specs.declared.Refusal.{Refusal}
 use Rattle.rules.specs.declared.Refusal.TheVariants.{Room}
@@ -106,9 +106,9 @@ abbrev pub stretch_of : ℕ → ℕ → Option Stretch
 stretch_of from at = cond (ltb from at) (Some (record { first = from; size = at - from })) None
 
 -- The last stretch of a tape that ends with n bytes undecided. These are dropped, so it goes from where the open one
--- begins up to the tape's end.
-unfoldable pub last_of : Torn → ℕ → Option Stretch
-last_of t n = stretch_of (opened t) (ends_at t.place n)
+-- begins up to the tape's end. The size is 0 where there is no last stretch.
+unfoldable pub last_of : Torn → ℕ → Stretch
+last_of t n = record { first = opened t; size = ends_at t.place n - opened t }
 
 -- a buffer has bytes from `done` up to `n`, perhaps none
 unfoldable pub movable : List ℕ → ℕ → ℕ → Bool
@@ -124,8 +124,8 @@ MovedTo s done n r s' =
 -- A program that feeds a tape piece by piece, from a salvage t with some bytes held, to its end. All that it writes,
 -- all that it lists, and whether a header was kept. Each answer is one that the contract allows, and none refuses.
 pub data Chain : Torn → List ℕ → List (List ℕ) → List ℕ → List ℕ → Bool → Type 0 where
-  end : {t : Torn} {h : List ℕ} (x : Option Stretch) → x ≡ last_of t (length h)
-      → Chain t h [] [] (cells (option_to_list x)) t.headed
+  end : {t : Torn} {h : List ℕ} (x : Stretch) → x ≡ last_of t (length h)
+      → Chain t h [] [] (cells (closed x.first (x.first + x.size) [])) t.headed
   feed : {t : Torn} {h p : List ℕ} {ps : List (List ℕ)} {w c : List ℕ} {b : Bool} (r : Fed)
       (out list out' list' : List ℕ) → FedTo t (h ++ p) out list (Ok r) out' list'
       → Chain r.torn (drop r.done (h ++ p)) ps w c b

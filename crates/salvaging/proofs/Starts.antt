@@ -1,6 +1,6 @@
 -- Where a pass starts: behind a header that is kept at byte 0, or at the first byte, and then byte 0 is a place like any other. And a whole tape as one piece.
 -- Assumes nothing.
-use Prim.Native.Nat.{ℕ, zero, ◌+◌, ◌/◌, ◌≤◌, ◌<◌}
+use Prim.Native.Nat.{ℕ, zero, ◌+◌, ◌/◌, ◌%◌, ◌≤◌, ◌<◌}
 use native.Mathlib.Omega.{arith}
 use mathlib.Core.Path.{◌≡◌, refl, sym, ap, ◌∙◌}
 use mathlib.Core.Bool.{Bool, true, false, cond, ◌&&◌}
@@ -42,6 +42,7 @@ module _ (place : ℕ) (buf : List ℕ) (z : place ≡ 0) (o : 16 ≤ length buf
 -- ---- the start of a pass
 
 pub record Starts (place begin size : ℕ) (buf : List ℕ) : Type 0 where
+  pub one : (size ≤ 16) × (size % 16 ≡ 0)
   pub within : size ≤ length buf
   pub marks : length (marked_at place buf) ≡ size + length (to_go buf size)
   pub begins : begun begin place (marked_at place buf) ≡ begun (begin + size) (place + size) (to_go buf size)
@@ -67,6 +68,7 @@ module _ (place begin : ℕ) (buf : List ℕ) (u : begin ≤ place) where
       let o : 16 ≤ length buf = makes_long true buf h.0 in
       let D : marked_at place buf ≡ replicate 16 true ++ to_go buf 16 = ap (λ (x : Bool). ahead x zero buf) (both_true e).0 ∙ ahead_keep true buf h.0 in
       record {
+        one = (omega arith, refl);
         within = o;
         marks = ap (λ (x : List Bool). length x) D ∙ length-append (replicate 16 true) (to_go buf 16);
         begins = ap (begun begin place) D ∙ rw (b, z) (begun_trues 15 0 0 (to_go buf 16));
@@ -81,6 +83,7 @@ module _ (place begin : ℕ) (buf : List ℕ) (u : begin ≤ place) where
       let x : begin + 0 ≡ begin = omega arith in
       let y : place + 0 ≡ place = omega arith in
       record {
+        one = (omega arith, refl);
         within = omega arith;
         marks = ap (λ (x : List Bool). length x) D ∙ omega arith;
         begins = rw (x, y) (ap (begun begin place) D);

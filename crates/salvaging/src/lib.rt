@@ -13,7 +13,7 @@ ghost use Rattle.salvage_marks.specs.Torn as torn;
 ghost use Rattle.salvage_marks.specs.Pieces as pieces;
 ghost use Rattle.salvaging.specs.Walk as walk;
 
-use crate::sinks::{Buffers, Nowhere, Sink, keep, list_one, numbers};
+use crate::sinks::{Buffers, Nowhere, Sink, keep_head, list_one, numbers};
 use record::RECORD_BYTES;
 use record_bytes::{is_command, is_header};
 use rules::Refusal;
@@ -163,7 +163,7 @@ impl<'a> Seen<'a> {
             ≡ sets list.old 0
             (torn.cells (pieces.ended self.now.begin self.now.place (walk.marked_at self.now.place self.now.buf.now))) }
     {
-        keep(out, 0, &self.buf[..self.head]);
+        keep_head(out, self.buf, self.head);
         let mut both = Buffers { out, list };
         self.pass(&mut both)
     }
@@ -225,13 +225,18 @@ pub fn move_down(buf: &mut [u8], done: usize, n: usize) -> usize
     n - done
 }
 
-// The end of the tape, with so many bytes held: the last dropped stretch, if there is one.
-pub fn last_stretch(t: Torn, held: usize) -> Option<Stretch>
+// The end of the tape, with so many bytes held: the last dropped stretch, of size 0 where there is none.
+// Kept (promise): where nothing is open the size is 0, and the place stands all the same.
+#[tactic(auto, unfolding(salvage_marks::specs::Pieces::last_of))]
+pub fn last_stretch(t: Torn, held: usize) -> Stretch
     ensures { result ≡ pieces.last_of t held }
 {
     let first = t.from.min(t.place);
     let end = t.place.saturating_add(held as u64);
-    stretch(first, end)
+    Stretch {
+        first,
+        size: end - first,
+    }
 }
 
 // ---- A whole tape

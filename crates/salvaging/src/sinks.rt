@@ -1,9 +1,10 @@
 // Where a pass over a tape's bytes puts what it finds: nowhere, where it only measures, or into two buffers.
-ghost use Rattle.std.specs.Prelude.{◌≡◌, ℕ, ◌+◌, ◌≤◌, List, [], ◌++◌, length, take, drop, option_to_list, ⊤};
+ghost use Rattle.std.specs.Prelude.{◌≡◌, ℕ, ◌+◌, ◌%◌, ◌≤◌, List, [], ◌++◌, length, take, drop, option_to_list, ⊤};
 ghost use Rattle.std.proofs.lemmas.List.Edits.{sets};
 ghost use Rattle.salvage_marks.specs.Torn as torn;
 ghost use Rattle.salvaging.specs.Lent.{Stored, stored_none, stored_more, stored_room};
 
+use record::RECORD_BYTES;
 use salvage_marks::Stretch;
 
 pub(crate) trait Sink {
@@ -15,7 +16,7 @@ pub(crate) trait Sink {
 
     // A record, and the stretch that ended before it, if one did.
     fn put(&mut self, w: usize, kept: &[u8], j: usize, ended: Option<Stretch>)
-        requires { Room self.old (w + length kept.now) (j + length (torn.cells (option_to_list ended))) }
+        requires { (length kept.now ≡ 16) × Room self.old (w + length kept.now) (j + length (torn.cells (option_to_list ended))) }
         ensures { Puts self.old w j kept.now (torn.cells (option_to_list ended)) self.new };
 
     ghost puts_none: { (s : Self) (w j : ℕ) → Puts s w j [] [] s };
@@ -67,12 +68,35 @@ pub(crate) fn list_one(list: &mut [u64], j: usize, ended: Option<Stretch>)
     }
 }
 
-// Kept bytes go to the new tape.
-pub(crate) fn keep(out: &mut [u8], w: usize, kept: &[u8])
-    requires { w + length kept.now ≤ length out.old }
+// A record's bytes at the front of a part. They are stored as one array: a slice that is copied asks whether the two
+// lie apart.
+fn store(part: &mut [u8], p: [u8; 16])
+    requires { 16 ≤ length part.old }
+    ensures { part.new ≡ p ++ drop 16 part.old }
+{
+    if let Some(cells) = part.first_chunk_mut::<RECORD_BYTES>() {
+        *cells = p;
+    }
+}
+
+// A kept record goes to the new tape.
+fn keep(out: &mut [u8], w: usize, kept: &[u8])
+    requires { (length kept.now ≡ 16) × (w + length kept.now ≤ length out.old) }
     ensures { out.new ≡ sets out.old w kept.now }
 {
-    out[w..w + kept.len()].copy_from_slice(kept);
+    if let Some(record) = kept.first_chunk::<RECORD_BYTES>() {
+        store(&mut out[w..], *record);
+    }
+}
+
+// The header goes to the new tape: 16 bytes, or none.
+pub(crate) fn keep_head(out: &mut [u8], buf: &[u8], size: usize)
+    requires { (size ≤ 16) × (size % 16 ≡ 0) × (size ≤ length out.old) × (size ≤ length buf.now) }
+    ensures { out.new ≡ sets out.old 0 (take size buf.now) }
+{
+    if size == RECORD_BYTES {
+        keep(out, 0, &buf[..RECORD_BYTES]);
+    }
 }
 
 // The new tape and the list.

@@ -11,9 +11,12 @@ use prog.Routine.{Routine}
 use types.Logic.{Logic}
 use contract.Monad.{Fun}
 use denote.Ref.{Bor}
+use denote.RattleType.{RattleType}
+use mir.Syntax.{Dict}
 use Rattle.one_answer.proofs.Law.{OneAnswer, OneEnd, one, both, each_of_two, each_of_three}
 use Rattle.std.specs.Prelude.{Result}
 use Rattle.rules.specs.declared.Refusal.{Refusal}
+use Rattle.tape.specs.declared.Numbered.{Ghosts}
 use Rattle.tape.specs.contracts.write_at
 use Rattle.tape.specs.contracts.number
 use Rattle.tape.specs.contracts.code_at
@@ -36,8 +39,10 @@ module _ {M : Type 1} {𝓤 : Ura M} (𝓛 : Logic 𝓤) (mem : Memory → SProp
 
   -- ---- the reader
 
-  pub number_single : OneAnswer 𝓤 number.ended (number.clauses 𝓛 mem run)
-  number_single κs a g r s d e = one 𝓤 _ _ _
+  -- whatever a refusal comes as
+  pub number_single : (E : RattleType) (n : Ghosts E.Denot) (l k : Dict)
+      → OneAnswer 𝓤 (number.ended E n l k) (number.clauses E n l k 𝓛 mem run)
+  number_single E n l k κs a g r s d e = one 𝓤 _ _ _
 
   pub code_at_single : OneAnswer 𝓤 code_at.ended (code_at.clauses 𝓛 mem run)
   code_at_single κs a g r s d e = one 𝓤 _ _ _

@@ -7,9 +7,10 @@
 // place: crate tape_read. The reader that holds its tape: crate tape_reader.)
 #![tactic(auto)]
 
-ghost use Rattle.std.specs.Prelude.{◌≡◌};
+ghost use Rattle.std.specs.Prelude.{◌≡◌, ◌++◌, ◌≤◌, ℕ, length, drop};
+ghost use Rattle.rules.specs.Numbers.{number_of};
 ghost use Rattle.tape_form.specs.Write.{Written};
-ghost use Rattle.tape_form.specs.Read.{number_of, code_at, next_at, PartAt};
+ghost use Rattle.tape_form.specs.Read.{number_by, code_at, next_at, PartAt};
 
 use record::RECORD_BYTES;
 pub use record::{Record, header};
@@ -20,6 +21,17 @@ use tape_checks::write_code;
 pub use tape_form::Read;
 pub use tape_read::{place, read_at};
 
+// A record's bytes at the front of a part. They are stored as one array: where the compiler has to see that two buffers
+// lie apart, as of a slice that is copied, a write took three times as long.
+fn put(part: &mut [u8], p: [u8; 16])
+    requires { 16 ≤ length part.old }
+    ensures { part.new ≡ p ++ drop 16 part.old }
+{
+    if let Some(cells) = part.first_chunk_mut::<RECORD_BYTES>() {
+        *cells = p;
+    }
+}
+
 // Writes a record, the header at place 0 and a command record elsewhere, into the part of the buffer that follows the
 // last one. A refusal, 15, 17 or 16, leaves the buffer as it was.
 #[tactic(auto, using(tape_form::proofs::Writing::accepted), unfolding(tape_form::specs::Write::write_of))]
@@ -27,18 +39,42 @@ pub fn write_at(out: &mut [u8], at: usize, r: Record) -> Result<(), Refusal>
     ensures { Written out.old at r result out.new }
 {
     write_code(out.len(), at, r)?;
-    let end = at + RECORD_BYTES;
-    out[at..end].copy_from_slice(&bytes_of(r));
+    put(&mut out[at..], bytes_of(r));
     Ok(())
 }
 
+// What a refusal comes as: by its name, or by a number.
+pub trait Numbered: Drop {
+    ghost numbered: { Self → ℕ };
+
+    fn numbered(self) -> u8
+        ensures { result ≡ numbered self };
+}
+
+impl Numbered for Refusal {
+    ghost numbered = { number_of };
+
+    fn numbered(self) -> u8 {
+        self.number()
+    }
+}
+
+impl Numbered for u8 {
+    ghost numbered = { λ n. n };
+
+    fn numbered(self) -> u8 {
+        self
+    }
+}
+
 // Document 01's number of an answer: 0 for a record and for the end.
-pub fn number(r: Read) -> u8
-    ensures { result ≡ number_of r }
+// Kept (promise): any refusal fits, by its name or by a number, whichever that is.
+pub fn number<E: Numbered>(r: Result<Option<(Record, usize)>, E>) -> u8
+    ensures { result ≡ number_by E.numbered r }
 {
     match r {
         Ok(_) => 0,
-        Err(refusal) => refusal.number(),
+        Err(refusal) => refusal.numbered(),
     }
 }
 

@@ -32,10 +32,13 @@ read_of s at =
     (cond (eqb at (length s)) (end_of (length s))
     (cond (ltb (length s) (at + 16)) (Err NoRecord) (judged at (take 16 (drop at s))))))
 
--- document 01's number for an answer: 0 for a record and for the end
+-- document 01's number for an answer: 0 for a record and for the end, else the refusal's, whatever says which that is
+abbrev pub number_by : {E : Type 0} → (E → ℕ) → Result (Option (Record × ℕ)) E → ℕ
+number_by n (Ok x) = 0
+number_by n (Err e) = n e
+
 abbrev pub number_of : Read → ℕ
-number_of (Ok x) = 0
-number_of (Err e) = refusals.number_of e
+number_of r = number_by refusals.number_of r
 
 -- how many bytes an answer hands back: a record's own 16, else none
 abbrev pub size_of : Read → ℕ
@@ -43,8 +46,8 @@ size_of (Ok (Some x)) = 16
 size_of (Ok None) = 0
 size_of (Err e) = 0
 
--- the place after an answer: behind the record, else kept
-abbrev pub place_of : ℕ → Read → ℕ
+-- the place after an answer: behind the record, else kept, whatever the refusal is
+abbrev pub place_of : {E : Type 0} → ℕ → Result (Option (Record × ℕ)) E → ℕ
 place_of at (Ok (Some x)) = x.1
 place_of at (Ok None) = at
 place_of at (Err e) = at

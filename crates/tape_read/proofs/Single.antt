@@ -6,6 +6,8 @@ use prog.Memory.{Memory}
 use prog.Routine.{Routine}
 use types.Logic.{Logic}
 use contract.Monad.{Fun}
+use denote.RattleType.{RattleType}
+use mir.Syntax.{Dict}
 use Rattle.one_answer.proofs.Law.{OneAnswer, one}
 use Rattle.tape_read.specs.contracts.read_at
 use Rattle.tape_read.specs.contracts.place
@@ -14,5 +16,6 @@ module _ {M : Type 1} {𝓤 : Ura M} (𝓛 : Logic 𝓤) (mem : Memory → SProp
   pub read_at_single : OneAnswer 𝓤 read_at.ended (read_at.clauses 𝓛 mem run)
   read_at_single κs a g r s d e = one 𝓤 _ _ _
 
-  pub place_single : OneAnswer 𝓤 place.ended (place.clauses 𝓛 mem run)
-  place_single κs a g r s d e = one 𝓤 _ _ _
+  -- whatever a refusal comes as
+  pub place_single : (E : RattleType) (l : Dict) → OneAnswer 𝓤 (place.ended E l) (place.clauses E l 𝓛 mem run)
+  place_single E l κs a g r s d e = one 𝓤 _ _ _

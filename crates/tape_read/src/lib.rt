@@ -4,7 +4,7 @@
 ghost use Rattle.std.specs.Prelude.{◌≡◌, ◌+◌, ◌<◌, ◌^◌};
 ghost use Rattle.tape_form.specs.Read.{judged, end_of, read_of, place_of};
 
-use record::{RECORD_BYTES, fault};
+use record::{RECORD_BYTES, Record, fault};
 use record_bytes::{is_marked, record_of};
 use rules::Refusal;
 pub use tape_form::Read;
@@ -55,7 +55,8 @@ pub fn read_at(tape: &[u8], at: usize) -> Read
 }
 
 // The place behind what was read at `at`: the record's end, or the same place where there is no record.
-pub fn place(at: usize, r: Read) -> usize
+// Kept (promise): any refusal fits, by its name or by a number, whichever that is.
+pub fn place<E: Drop>(at: usize, r: Result<Option<(Record, usize)>, E>) -> usize
     ensures { result ≡ place_of at r }
 {
     match r {

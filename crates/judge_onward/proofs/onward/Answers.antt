@@ -25,7 +25,7 @@ returns-then-not-is_marked c =
     a.until.now a.ceiling.now a.waiter.now a.clock.now a.started.now) a.h in
     let going = none_of c.is_some.ensures c.if-is_some.false in
     let wrong = unmarked_fault j.place a.p.now (sym c.is_marked.ensures ∙ c.if-not-is_marked.true) in
-    rw c.refused.ensures (onward_refused j a.p.now going wrong)
+    rw (c.refused.ensures, c.number.ensures) (onward_refused j a.p.now going wrong)
 
 pub returns-in-Err : goal.returns-in-Err
 returns-in-Err c =
@@ -35,7 +35,7 @@ returns-in-Err c =
     a.until.now a.ceiling.now a.waiter.now a.clock.now a.started.now) a.h in
     let going = none_of c.is_some.ensures c.if-is_some.false in
     let wrong = fault_is j.place a.p.now c.is_marked.ensures c.if-not-is_marked.false c.record_of-t.ensures c.fault.ensures c.in-Err.is in
-    rw (c.refused-in-Err.ensures, c.record_of-t.ensures) (onward_refused j a.p.now going wrong)
+    rw (c.refused-in-Err.ensures, c.number-in-Err.ensures, c.record_of-t.ensures) (onward_refused j a.p.now going wrong)
 
 pub returns-then-place-eq0 : goal.returns-then-place-eq0
 returns-then-place-eq0 c =

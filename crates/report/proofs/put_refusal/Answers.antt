@@ -6,4 +6,4 @@ use Rattle.report.proofs.put_refusal.Goals as goal
 pub returns : goal.returns
 unfolding verdict_text
 returns c =
-    rw (← c.number.ensures) (then c.put_small-number.ensures c.put_where.ensures)
+    then c.put_small-number.ensures c.put_where.ensures

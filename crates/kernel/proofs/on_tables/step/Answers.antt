@@ -22,7 +22,7 @@ returns-then-not-sound c =
     let asked : Command = to_rules a.c in
     let e : is_sound k ≡ false = sym c.sound.ensures ∙ c.if-not-sound.true in (
       (let q : k ≡ (step_of k asked).next = rw e in q),
-      c.refused.ensures ∙ (let q : refused 1 0 ≡ (step_of k asked).answer = rw e in q),
+      rw (c.refused.ensures, c.number.ensures) (let q : refused 1 0 ≡ (step_of k asked).answer = rw e in q),
     )
 
 pub returns : goal.returns

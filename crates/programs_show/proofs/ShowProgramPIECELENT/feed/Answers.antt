@@ -1,7 +1,8 @@
 -- There is room for what a piece prints (show_text/proofs/Rooms).
-use Rattle.std.proofs.Common.{◌*◌, suc, length, ap, ◌∙◌}
+use Rattle.std.proofs.Common.{ℕ, ◌*◌, suc, List, length, take, ap, sym, ◌∙◌}
 use Rattle.show_text.specs.declared.Fed.{Fed}
-use Rattle.programs_flow.proofs.Rooms.{with_room, put_front}
+use Rattle.show_text.specs.Show.{fed, fed_out}
+use Rattle.programs_flow.proofs.Rooms.{with_room, put_front, front_fits, front_same}
 use Rattle.show_text.proofs.Rooms.{show_roomy}
 use Rattle.programs_show.proofs.ShowProgramPIECELENT.feed.Goals as goal
 
@@ -9,7 +10,10 @@ pub returns : goal.returns
 returns c =
     let a = c.args in
     let f = c.feed-f in
-    let o = show_roomy a.piece.now a.out.now c.requires.0 c.requires.1 in
-    let e = f.ensures.0 ∙ with_room (4096 * suc (length a.piece.now)) a.out.now _ _ o in
-    let l = f.ensures.1 ∙ with_room (4096 * suc (length a.piece.now)) a.out.now _ _ o in
-    (ap (λ (x : Fed). x.showing) e, put_front _ _ _ _ l (ap (λ (x : Fed). x.at) e) f.ensures.2.0, f.ensures.2)
+    let only = a.self.now.only in
+    let p = take a.n a.piece.now in
+    let same = front_same a.piece.now a.n 15 c.min.result c.told-piece c.min.ensures in
+    let o = show_roomy p a.out.now (front_fits a.piece.now a.n 15 c.told-piece) (sym c.told-out) in
+    let e = f.ensures.0 ∙ ap (λ (q : List ℕ). fed only a.w q a.out.now) same ∙ with_room (4096 * suc (length p)) a.out.now _ _ o in
+    let l = f.ensures.1 ∙ ap (λ (q : List ℕ). fed_out only a.w q a.out.now) same ∙ with_room (4096 * suc (length p)) a.out.now _ _ o in
+    (ap (λ (x : Fed). x.showing) e, put_front _ _ _ _ l (ap (λ (x : Fed). x.at) e) f.ensures.2.0, f.ensures.2, f.auto.out ∙ c.told-out)

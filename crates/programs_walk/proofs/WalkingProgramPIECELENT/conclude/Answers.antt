@@ -1,15 +1,15 @@
--- There is room for a last line (session_walk_text/proofs/Rooms), and all of it is written (programs_flow/proofs/Turns).
-use Rattle.std.proofs.Common.{arith}
-use Rattle.text.specs.Printed.{walk_room}
+-- Where nothing has failed all of the last line is written (programs_flow/proofs/Turns).
+use Rattle.std.proofs.Common.{sym, inr, ◌∙◌}
 use Rattle.session_walk_text.specs.Walk.{last_text, printed}
-use Rattle.programs_flow.proofs.Rooms.{put_roomy}
 use Rattle.programs_flow.proofs.Turns.{took_text}
 use Rattle.programs_walk.proofs.WalkingProgramPIECELENT.conclude.Goals as goal
 
 pub returns : goal.returns
 unfolding printed
 returns g c =
-    let a = c.args in
-    let f = c.finish-last in
-    let put = put_roomy walk_room (last_text a.w) a.out.now _ _ (omega (arith, c.requires.1)) f.ensures.0 f.ensures.1 f.ensures.2.0 in
-    took_text (last_text a.w) _ f.result a.read.state a.read c.write_whole.result put c.write_whole.ensures.1
+    let read = c.args.read in
+    let put = c.put_last-last in
+    inr (
+      sym c.has_failed.ensures ∙ c.if-has_failed.false,
+      took_text (last_text _) _ put.result read.state read c.write_whole.result put.ensures.0 c.write_whole.ensures.1,
+    )

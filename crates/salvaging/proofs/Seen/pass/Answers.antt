@@ -38,9 +38,12 @@ put-requires g c =
     let e = ap (λ (x : List ℕ). length x) (ended_numbers l.from (a.place + l.at) c.stretch-ended.ensures) in
     let r = keep_room a.buf.now a.place l.at l.from (omega arith) m l.kept in
     let n = keep_list_room a.buf.now a.place l.at l.from (omega arith) m l.cells in
-    g.met.S.Sink.room_left _ _ _ _ _ _ _ _ [] [] (g.met.S.Sink.puts_none l.sink l.kept l.cells) l.invariant.room
-    (omega (arith, r, ap (λ (x : Passed). x.kept) l.invariant.passed, (part a.buf.now l.at (omega arith)).1))
-    (omega (arith, n, ap (λ (x : Passed). x.cells) l.invariant.passed, e))
+    let q = part a.buf.now l.at (omega arith) in (
+      q.1,
+      g.met.S.Sink.room_left _ _ _ _ _ _ _ _ [] [] (g.met.S.Sink.puts_none l.sink l.kept l.cells) l.invariant.room
+          (omega (arith, r, ap (λ (x : Passed). x.kept) l.invariant.passed, q.1))
+          (omega (arith, n, ap (λ (x : Passed). x.cells) l.invariant.passed, e)),
+    )
 
 pub overflow_add-cells : goal.overflow_add-cells
 overflow_add-cells g c =

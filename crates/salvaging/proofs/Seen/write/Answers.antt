@@ -4,7 +4,7 @@ use mathlib.Core.Path.{sym, ap, ◌∙◌}
 use mathlib.Core.List.{List}
 use native.Mathlib.Omega.{arith}
 use lib.ListN.{drop}
-use lib.Seq.{sets, length-take-le}
+use lib.Seq.{sets}
 use Rattle.salvage_marks.specs.declared.Stretch.{Stretch}
 use Rattle.salvage_marks.specs.Torn.{pick, cells}
 use Rattle.salvaging.specs.declared.Passed.{Passed}
@@ -12,18 +12,12 @@ use Rattle.salvaging.specs.Walk.{to_go}
 use Rattle.salvaging.proofs.Starts.{starts, start_passed, start_out}
 use Rattle.salvaging.proofs.Seen.write.Goals as goal
 
-pub slice_bounds-keep-end : goal.slice_bounds-keep-end
-slice_bounds-keep-end c =
-    let a = c.args.self.now in
-    let s = starts a.place a.begin a.buf.now a.opened a.head a.headed in
-    sym (length-take-le a.head a.buf.now s.within)
-
-pub keep-requires : goal.keep-requires
-keep-requires c =
+pub keep_head-requires : goal.keep_head-requires
+keep_head-requires c =
     let a = c.args.self.now in
     let s = starts a.place a.begin a.buf.now a.opened a.head a.headed in
     let e = ap (λ (x : Passed). x.kept) (start_passed a.place a.begin a.head a.buf.now s) in
-    omega (arith, e, c.requires.0, length-take-le a.head a.buf.now s.within)
+    (s.one.0, s.one.1, omega (arith, e, c.requires.0), s.within)
 
 pub returns-clause-out : goal.returns-clause-out
 returns-clause-out c =
@@ -32,7 +26,7 @@ returns-clause-out c =
     let s = starts a.place a.begin b a.opened a.head a.headed in
     let k = c.pass.ensures.put.0 in
     let e =
-    k.contents ∙ ap (λ (x : List ℕ). sets x a.head (pick (to_go b a.head) (drop a.head b))) c.keep.ensures
+    k.contents ∙ ap (λ (x : List ℕ). sets x a.head (pick (to_go b a.head) (drop a.head b))) c.keep_head.ensures
     ∙ start_out a.place a.begin a.head b s c.args.out.now in
     let n = k.same in
     grind (arith, e, n)
