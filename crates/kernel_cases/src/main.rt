@@ -153,41 +153,29 @@ fn put(s: State, table: Word, at: u64, value: u64) -> State {
     next
 }
 
+// A line is carried out in place: a bench is six states, and a copy of it for each call would take the stack.
 impl Bench {
-    fn with(self, k: State) -> Bench {
-        let mut next = self;
-        next.hand = k;
-        next
-    }
-
     // The machine at hand, kept as n.
-    fn kept(self, n: u64) -> Bench {
-        let k = self.hand;
-        let mut next = self;
+    fn keep(&mut self, n: u64) {
         let i = (n % 4) as usize;
-        next.kept[i] = k;
-        next.last = k;
-        next
+        self.kept[i] = self.hand;
+        self.last = self.hand;
     }
 
-    fn taken(self, n: u64) -> Bench {
+    fn take(&mut self, n: u64) {
         let i = (n % 4) as usize;
-        let k = self.kept[i];
-        let mut next = self;
-        next.hand = k;
-        next.last = k;
-        next
+        self.hand = self.kept[i];
+        self.last = self.hand;
     }
 
-    fn spoilt(self, rt: &impl Print, w: Words) -> io::Result<Bench> {
-        let k = self.hand;
-        said(rt, put(k, spelt(w.a), w.b, w.c))?;
-        let last = self.last;
-        Ok(self.with(last))
+    fn spoil(&mut self, rt: &impl Print, w: Words) -> io::Result<()> {
+        said(rt, put(self.hand, spelt(w.a), w.b, w.c))?;
+        self.hand = self.last;
+        Ok(())
     }
 
     // A line of the table is carried out.
-    fn told(self, rt: &impl Print, w: Words) -> io::Result<Bench> {
+    fn told(&mut self, rt: &impl Print, w: Words) -> io::Result<()> {
         if prints(spelt(w.word)) {
             let line = w.line;
             print!(rt; "{line} ")?;
@@ -195,27 +183,20 @@ impl Bench {
         self.carried(rt, w)
     }
 
-    fn carried(self, rt: &impl Print, w: Words) -> io::Result<Bench> {
-        let k = self.hand;
-        let kept = self.kept;
+    fn carried(&mut self, rt: &impl Print, w: Words) -> io::Result<()> {
         let word = spelt(w.word);
         match &word {
-            b"\0\0\0fresh" => Ok(self.with(State::fresh())),
-            b"\0\0\0\0\0\0do" => Ok(self.with(done(rt, k, command(w))?)),
-            b"\0\0\0\0\0put" => Ok(self.with(put(k, spelt(w.a), w.b, w.c))),
-            b"\0\0\0\0keep" => Ok(self.kept(w.a)),
-            b"\0\0\0\0take" => Ok(self.taken(w.a)),
-            b"\0\0\0spoil" => self.spoilt(rt, w),
-            b"\0\0\0\0\0ask" => {
-                asked(rt, k, w.a)?;
-                Ok(self)
-            }
-            b"\0\0\0\0each" => {
-                each(rt, kept, command(w))?;
-                Ok(self)
-            }
-            _ => Ok(self),
+            b"\0\0\0fresh" => self.hand = State::fresh(),
+            b"\0\0\0\0\0\0do" => self.hand = done(rt, self.hand, command(w))?,
+            b"\0\0\0\0\0put" => self.hand = put(self.hand, spelt(w.a), w.b, w.c),
+            b"\0\0\0\0keep" => self.keep(w.a),
+            b"\0\0\0\0take" => self.take(w.a),
+            b"\0\0\0spoil" => self.spoil(rt, w)?,
+            b"\0\0\0\0\0ask" => asked(rt, self.hand, w.a)?,
+            b"\0\0\0\0each" => each(rt, self.kept, command(w))?,
+            _ => {}
         }
+        Ok(())
     }
 }
 
@@ -241,7 +222,7 @@ fn main(rt: HostRuntime) -> io::Result<()> {
     for _ in 0..u64::MAX {
         match byte(&mut input) {
             Some(b'\n') => {
-                bench = bench.told(&rt, w.parted())?;
+                bench.told(&rt, w.parted())?;
                 w = w.next_line();
             }
             Some(b' ') => w = w.parted(),
