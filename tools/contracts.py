@@ -7,7 +7,7 @@
   - no public function has a `requires`: no caller has to check first; and so with the functions that a public trait declares;
   - no body has over 40 lines, and none has two loops: they are read by people;
   - every public function has its statement that no second answer meets its contract (tools/one_answer.py), or stands among the
-    exceptions of docs/EVIDENCE.md, "One answer".
+    exceptions of docs/EVIDENCE.md, "One answer"; and of each that a public trait declares that page says whether it has one.
 
 It reads the sources as text. What a contract says, and that the code meets it, is the toolchain's to prove.
 """
@@ -23,7 +23,7 @@ LONGEST = 40
 HEAD = re.compile(r'^[ \t]*(pub(?:\([a-z]+\))?[ \t]+)?(?:(?:const|unsafe|safe|final)[ \t]+)*(?:extern[ \t]+)?fn[ \t]+(\w+)', re.M)
 # `ensures {`, `ensures low {`, `ensures* {`; and of a ghost parameter `ghost n: {`
 CLAUSE = re.compile(r'\b(requires|ensures|ghost)\*?(?:\s+\w+)?\s*:?\s*$')
-TRAIT = re.compile(r'^pub[ \t]+trait[ \t]+(\w+)[^{]*\{', re.M)
+TRAIT = re.compile(r'^[ \t]*pub[ \t]+(?:unsafe[ \t]+)?trait[ \t]+(\w+)[^{]*\{', re.M)
 IMPL = re.compile(r'^impl\b[^{]*?(\w+)(?:<[^{]*>)?\s*\{', re.M)
 # `path`: modules, type and name, as the proofs spell it (walk.feed, Kernel.step). `signature`: from the name to the first clause.
 # `length`: how many lines lie between its first and its last.
@@ -34,7 +34,9 @@ def clauses_at(text, at):
     """Of a function whose name ends here: its clauses, the brace behind them, and whether it is declared only and has no body there."""
     clauses = set()
     while True:
-        brace = text.index('{', at)
+        brace = text.find('{', at)
+        if brace < 0:
+            return clauses, len(text), True
         declared = ';' in re.sub(r'\[[^\]]*\]', '', text[at:brace])
         clause = CLAUSE.search(text[at:brace])
         if declared or not clause:
@@ -43,16 +45,20 @@ def clauses_at(text, at):
         at = closing(text, brace)
 
 
-def declared_faults(source):
-    """Of each function that a public trait has: which of the rules on clauses it breaks."""
+def declared_functions(source):
+    """Of each function that a public trait declares: the trait, its name, and its clauses."""
     text = code(source)
     for trait in TRAIT.finditer(text):
         for head in HEAD.finditer(text, trait.end(), closing(text, trait.end() - 1)):
-            clauses = clauses_at(text, head.end())[0]
-            if 'ensures' not in clauses:
-                yield f'{trait.group(1)}.{head.group(2)} of a public trait has no `ensures`: say what it answers'
-            if 'requires' in clauses:
-                yield f'{trait.group(1)}.{head.group(2)} of a public trait has a `requires`: have the types say it'
+            yield trait.group(1), head.group(2), clauses_at(text, head.end())[0]
+
+
+def declared_faults(trait, name, clauses):
+    """Which of the rules on clauses such a function breaks."""
+    if 'ensures' not in clauses:
+        yield f'{trait}.{name} of a public trait has no `ensures`: say what it answers'
+    if 'requires' in clauses:
+        yield f'{trait}.{name} of a public trait has a `requires`: have the types say it'
 
 
 def functions(source, modules):
@@ -95,11 +101,14 @@ def faults(function):
 
 def main():
     root = pathlib.Path(__file__).resolve().parent.parent
-    count, public, broken = 0, collections.defaultdict(list), []
+    count, public, declared, broken = 0, collections.defaultdict(list), [], []
     for path in sorted(root.glob('crates/*/src/**/*.rt')):
         below = path.relative_to(root).parts
-        broken += [f'{path.relative_to(root)}: {said}' for said in declared_faults(path.read_text())]
-        for function in functions(path.read_text(), modules_of(pathlib.PurePath(*below[2:]))):
+        modules = modules_of(pathlib.PurePath(*below[2:]))
+        for trait, name, clauses in declared_functions(path.read_text()):
+            broken += [f'{path.relative_to(root)}: {said}' for said in declared_faults(trait, name, clauses)]
+            declared.append('::'.join([below[1], *modules, trait, name]))
+        for function in functions(path.read_text(), modules):
             count += 1
             place = f'{path.relative_to(root)}:{function.line}: {function.path}'
             broken += [f'{place} {said}' for said in faults(function)]
@@ -108,7 +117,7 @@ def main():
     if count == 0:
         print('tools/contracts.py: no function found under crates/: are the sources there?', file=sys.stderr)
         return 1
-    unstated, stated = missing(root, public)
+    unstated, stated = missing(root, public, declared)
     for said in broken + unstated:
         print(said, file=sys.stderr)
     if broken or unstated:

@@ -49,39 +49,47 @@ fn command(w: Words) -> Command {
     }
 }
 
+// Each number is written by itself: where a write fails, those before it are out.
+fn shown(rt: &impl Print, n: u64) -> io::Result<()> {
+    print!(rt; "{n} ")
+}
+
+fn shown_last(rt: &impl Print, n: u64) -> io::Result<()> {
+    println!(rt; "{n}")
+}
+
 // Code, running, released and the exception of a command, and the state after it.
 fn answered(rt: &impl Print, k: State, c: Command) -> io::Result<State> {
     let r = k.step(c);
-    let code = r.answer.code;
-    let running = r.answer.running.0;
-    let released = r.answer.released.0;
-    let exception = u8::from(r.answer.exception);
-    print!(rt; "{code} {running} {released} {exception}")?;
+    shown(rt, u64::from(r.answer.code))?;
+    shown(rt, u64::from(r.answer.running.0))?;
+    shown(rt, u64::from(r.answer.released.0))?;
+    shown(rt, u64::from(r.answer.exception))?;
     Ok(r.next)
 }
 
 fn done(rt: &impl Print, k: State, c: Command) -> io::Result<State> {
     let next = answered(rt, k, c)?;
-    let clock = next.kernel.clock;
-    let same = u8::from(k == next);
-    println!(rt; " {clock} {same}")?;
+    shown(rt, next.kernel.clock)?;
+    shown_last(rt, u64::from(k == next))?;
     Ok(next)
 }
 
 fn asked(rt: &impl Print, k: State, task: u64) -> io::Result<()> {
     let count = k.wakes_left(TaskID((task % 256) as u8));
-    let code = count.code;
-    let left = count.left;
-    println!(rt; "{code} {left}")
+    shown(rt, u64::from(count.code))?;
+    shown_last(rt, u64::from(count.left))
 }
 
 fn each(rt: &impl Print, kept: [State; 4], c: Command) -> io::Result<()> {
     for k in [kept[1], kept[2], kept[3]] {
         answered(rt, k, c)?;
-        print!(rt; " ")?;
     }
-    answered(rt, kept[0], c)?;
-    println!(rt; "")
+    let r = kept[0].step(c);
+    shown(rt, u64::from(r.answer.code))?;
+    shown(rt, u64::from(r.answer.running.0))?;
+    shown(rt, u64::from(r.answer.released.0))?;
+    shown_last(rt, u64::from(r.answer.exception))
 }
 
 // Whether a line with that first word prints anything.
@@ -104,12 +112,10 @@ fn bare(op: u8) -> Command {
 
 // What is said of a state.
 fn said(rt: &impl Print, k: State) -> io::Result<()> {
-    let sound = u8::from(k.sound());
-    print!(rt; "{sound} ")?;
+    shown(rt, u64::from(k.sound()))?;
     let next = answered(rt, k, bare(6))?;
-    let same = u8::from(k == next);
-    let code = k.step(bare(0)).answer.code;
-    print!(rt; " {same} {code} ")?;
+    shown(rt, u64::from(k == next))?;
+    shown(rt, u64::from(k.step(bare(0)).answer.code))?;
     asked(rt, k, 1)
 }
 
@@ -177,8 +183,7 @@ impl Bench {
     // A line of the table is carried out.
     fn told(&mut self, rt: &impl Print, w: Words) -> io::Result<()> {
         if prints(spelt(w.word)) {
-            let line = w.line;
-            print!(rt; "{line} ")?;
+            shown(rt, w.line)?;
         }
         self.carried(rt, w)
     }

@@ -3,6 +3,7 @@
 
 ghost use Rattle.std.specs.Prelude.{◌≡◌, refl, ◌++◌, length};
 ghost use Rattle.std.proofs.Common.{rules};
+ghost use Rattle.rules.specs.Line.{among};
 ghost use Rattle.text.specs.Printed.{draw_header};
 ghost use Rattle.decimal.specs.Buffer.{InFront};
 ghost use Rattle.session_draw.specs.Draw as draws;
@@ -77,6 +78,8 @@ impl Program<PIECE, LENT> for Drawing {
     ghost text = { λ x. draws.piece_text };
 
     ghost printed = { λ x. draws.printed };
+
+    ghost remarks = { λ x p. among p 13 };
 
     fn begin(&self) -> Reader {
         begin()

@@ -1,6 +1,7 @@
 -- No second answer of those public functions whose answer hangs on nothing that the system does: of any Went, only one answer meets the contract as the check
 -- states it. Rules out: a contract that leaves the status, a count or how the work stands open. Leaves: which answer it is (specs/); and what a read brings
--- and a write takes, which no contract can say. (Five of them take what stands for standard error: of any type `E` that prints.) (The law: crate one_answer, proofs/Law.) Assumes nothing.
+-- and a write takes, which no contract can say. (Five of them take what stands for standard error: of any type `E` that prints.) (The law: crate one_answer, proofs/Law.)
+-- And of what a `Program` lays into a buffer: how many bytes, and what the buffer then holds. Assumes nothing.
 use seplogic.Ra.Ura.{Ura}
 use base.Logic.{SProp}
 use prog.Memory.{Memory}
@@ -10,6 +11,10 @@ use contract.Monad.{Fun}
 use denote.RattleType.{RattleType}
 use mir.Syntax.{Dict}
 use Rattle.std.specs.declared.io.Print.{Ghosts}
+use Prim.Native.Nat.{ℕ}
+use mathlib.Core.Path.{◌≡◌, sym, ◌∙◌}
+use mathlib.Core.List.{List}
+use Rattle.programs_flow.specs.Loops.{Laid}
 use Rattle.one_answer.proofs.Law.{OneAnswer, one}
 use Rattle.programs_flow.specs.contracts.Went.going
 use Rattle.programs_flow.specs.contracts.Went.goes_on
@@ -22,6 +27,9 @@ use Rattle.programs_flow.specs.contracts.checked
 use Rattle.programs_flow.specs.contracts.Went.has_ended
 use Rattle.programs_flow.specs.contracts.not_read
 use Rattle.programs_flow.specs.contracts.not_written
+
+pub laid_single : (before text out left : List ℕ) (n m : ℕ) → Laid n before out text → Laid m before left text → (n ≡ m) × (out ≡ left)
+laid_single before text out left n m p q = (p.0 ∙ sym q.0, p.1 ∙ sym q.1)
 
 module _ {M : Type 1} {𝓤 : Ura M} (𝓛 : Logic 𝓤) (mem : Memory → SProp 𝓤) (run : Routine → Fun 𝓤) where
   pub going_single : OneAnswer 𝓤 going.ended (going.clauses 𝓛 mem run)

@@ -11,8 +11,8 @@ use lib.ListN.{length, take, length-append}
 use Rattle.programs_flow.specs.declared.State.{State}
 use Rattle.programs_flow.specs.declared.State.TheVariants.{GoesOn, Ended, ReadFailed, WriteFailed}
 use Rattle.programs_flow.specs.declared.Went.{Went}
-use Rattle.programs_flow.specs.Flow.{nothing_yet, goes_on, has_failed, Took, Wrote}
-use Rattle.programs_flow.specs.Loops.{Put, After, Text, behind, texts, NoneEmpty, Fed, Turned, Over, Looped, Concluded, Whole, Ran}
+use Rattle.programs_flow.specs.Flow.{nothing_yet, goes_on, has_failed, Came, Took, Wrote}
+use Rattle.programs_flow.specs.Loops.{Put, After, Text, behind, texts, NoneEmpty, Fed, Turned, Over, Looped, Concluded, Parted, Whole, Ran}
 
 -- ---- tests
 
@@ -37,6 +37,27 @@ write_failed s o k = absurd (false≢true (sym o ∙ ap has_failed k))
 pub took_text : (text out : List ℕ) (at : ℕ) (state : State) (was went : Went) → Put at out text → Took (length (take at out)) state was went
     → Took (length text) state was went
 took_text text out at state was went p w = rw (ap length p.1) at w
+
+-- a turn that has read a piece: what was put for it was taken, or the write failed
+pub fed_so : {S : Type 0} (after : After S) (text : Text S) (s t : S) (was came went : Went) (piece out : List ℕ) (n at : ℕ) → came.state ≡ GoesOn
+    → Came was came piece → n ≡ came.count → t ≡ after s (take n piece) → Put at out (text s (take n piece)) → Wrote (length (take at out)) came went
+    → Turned after text s t was went piece out
+fed_so after text s t was came went piece out n at on (b, _, same) e f put w =
+    inl (subst (λ (k : ℕ). Fed after text s t was went (take k piece) out) (e ∙ sym w.0) (some b.2, f, stands, took (took_text words out at came.state came went put w.1)))
+  where
+    words : List ℕ
+    words = text s (take n piece)
+
+    some : ((came.state ≡ GoesOn) × (1 ≤ came.count)) ⊎ ((came.count ≡ 0) × (came.state ≢ GoesOn)) → 1 ≤ length (take n piece)
+    some (inl (_, o)) = let l = ap (λ (k : ℕ). length (take k piece)) e in omega (arith, o, l, b.1)
+    some (inr (_, o)) = absurd (o on)
+
+    stands : take (length words) out ≡ words
+    stands = ap (λ (k : ℕ). take k out) (sym put.0) ∙ put.1
+
+    took : Took (length words) came.state came went → Took (length words) GoesOn was went
+    took (inl (k, a)) = inl (k ∙ on, omega (arith, a, same))
+    took (inr k) = inr k
 
 -- ---- one piece more, behind the others
 
@@ -149,51 +170,51 @@ counted after text all more s [] = omega arith
 counted after text all more s (p ∷ ps) = let e = counted after text all more (after s p) ps in rw (more s p ps) (simp length-append (omega (arith, e)))
 
 -- a whole run: the header, the loop, the end
-module _ {S : Type 0} (after : After S) (text : Text S) (wants : S → Bool) (s t : S) (header last : List ℕ) (headed read went : Went)
-    (h : Took (length header) GoesOn nothing_yet headed) (l : Looped after text wants s t headed read) (c : Concluded last read went) where
+module _ {S : Type 0} (after : After S) (text : Text S) (wants : S → Bool) (s t : S) (header last : List ℕ) (went : Went)
+    (run : Parted after text wants s t header last went) where
   abbrev Parts : Type 0
   Parts =
       (has_failed went.state ≡ true)
-      ⊎ ((went.sent ≡ length header + (length (texts after text s l.pieces) + length last)) × Over wants (behind after s l.pieces) l.pieces went)
+      ⊎ ((went.sent ≡ length header + (length (texts after text s run.loop.pieces) + length last)) × Over wants (behind after s run.loop.pieces) run.loop.pieces went)
 
-  over_still : went.state ≡ read.state → Over wants (behind after s l.pieces) l.pieces went
-  over_still k = go l.over
+  over_still : went.state ≡ run.read.state → Over wants (behind after s run.loop.pieces) run.loop.pieces went
+  over_still k = go run.loop.over
     where
-      go : Over wants t l.pieces read → Over wants (behind after s l.pieces) l.pieces went
+      go : Over wants t run.loop.pieces run.read → Over wants (behind after s run.loop.pieces) run.loop.pieces went
       go (inl o) = inl (λ e. o (sym k ∙ e))
-      go (inr (inl n)) = inr (inl (subst (λ x. T (not (wants x))) l.state n))
+      go (inr (inl n)) = inr (inl (subst (λ x. T (not (wants x))) run.loop.state n))
       go (inr (inr o)) = inr (inr o)
 
-  all_sent : has_failed read.state ≡ false → read.sent ≡ length header + length (texts after text s l.pieces)
-  all_sent o = go h l.taken
+  all_sent : has_failed run.read.state ≡ false → run.read.sent ≡ length header + length (texts after text s run.loop.pieces)
+  all_sent o = go run.first run.loop.taken
     where
-      go : Took (length header) GoesOn nothing_yet headed
-          → (read.state ≡ WriteFailed) ⊎ (read.sent ≡ headed.sent + length (texts after text s l.pieces))
-          → read.sent ≡ length header + length (texts after text s l.pieces)
-      go x (inl k) = write_failed read.state o k
+      go : Took (length header) GoesOn nothing_yet run.headed
+          → (run.read.state ≡ WriteFailed) ⊎ (run.read.sent ≡ run.headed.sent + length (texts after text s run.loop.pieces))
+          → run.read.sent ≡ length header + length (texts after text s run.loop.pieces)
+      go x (inl k) = write_failed run.read.state o k
       go (inl (_, e)) (inr f) = omega (arith, e, f)
       go (inr k) (inr f) =
-          let same = (l.stopped (no_more headed.state (ap goes_on k))).1 in
-          write_failed read.state o (ap (λ (w : Went). w.state) same ∙ k)
+          let same = (run.loop.stopped (no_more run.headed.state (ap goes_on k))).1 in
+          write_failed run.read.state o (ap (λ (w : Went). w.state) same ∙ k)
 
   pub in_all : Parts
-  in_all = go c
+  in_all = go run.end
     where
-      go : Concluded last read went → Parts
+      go : Concluded last run.read went → Parts
       go (inl (o, e)) = inl (ap (λ (w : Went). has_failed w.state) e ∙ o)
       go (inr (o, inr k)) = inl (ap has_failed k)
       go (inr (o, inl (k, e))) = inr (omega (arith, e, all_sent o), over_still k)
 
   pub ran : (all : S → List (List ℕ) → List ℕ) → ((x : S) (p : List ℕ) (ps : List (List ℕ)) → all x (p ∷ ps) ≡ text x p ++ all (after x p) ps)
       → all t [] ≡ last → Ran after wants s (λ ps. header ++ all s ps) t went
-  ran all more end = (l.pieces, l.none_empty, l.state, go in_all)
+  ran all more end = (run.loop.pieces, run.loop.none_empty, run.loop.state, go in_all)
     where
       go : Parts → (has_failed went.state ≡ true)
-          ⊎ ((went.sent ≡ length (header ++ all s l.pieces)) × Over wants (behind after s l.pieces) l.pieces went)
+          ⊎ ((went.sent ≡ length (header ++ all s run.loop.pieces)) × Over wants (behind after s run.loop.pieces) run.loop.pieces went)
       go (inl o) = inl o
       go (inr (e, o)) =
-          let n = ap (λ x. length (all x [])) (sym l.state) ∙ ap length end in
-          inr (simp length-append (omega (arith, e, n, counted after text all more s l.pieces)), o)
+          let n = ap (λ x. length (all x [])) (sym run.loop.state) ∙ ap length end in
+          inr (simp length-append (omega (arith, e, n, counted after text all more s run.loop.pieces)), o)
 
 -- a whole run, wherever it stands
 pub whole : {S : Type 0} (after : After S) (wants : S → Bool) (s t : S) (all : List (List ℕ) → List ℕ) (went : Went) → Ran after wants s all t went

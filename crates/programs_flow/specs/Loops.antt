@@ -4,15 +4,21 @@
 --
 -- These wrong programs meet all of it, and only runs refuse them (host/io.py, the stored cases). One reads twice and
 -- drops what the first read brought. One takes a failed read for the end of the input. One writes other bytes, as
--- many as the text has. One answers another status than its work's: `run` is one line.
+-- many as the text has. One writes on behind a failed write. One answers another status than its work's: `run` is one
+-- line.
 use Rattle.std.specs.Prelude.{ℕ, ◌+◌, ◌≤◌, Bool, true, false, not, ◌≡◌, ◌≢◌, List, [], ◌∷◌, ◌++◌, ◌⊎◌, T, length, take}
+use Rattle.std.proofs.lemmas.List.Edits.{sets}
 use Rattle.programs_flow.specs.declared.State.TheVariants.{GoesOn, Ended, ReadFailed, WriteFailed}
 use Rattle.programs_flow.specs.declared.Went.{Went}
-use Rattle.programs_flow.specs.Flow.{has_failed, Took}
+use Rattle.programs_flow.specs.Flow.{nothing_yet, has_failed, Took}
 
 -- So many bytes stand at the front of a buffer, and they are this text.
 abbrev pub Put : ℕ → List ℕ → List ℕ → Type 0
 Put n out text = (n ≡ length text) × (take n out ≡ text)
+
+-- Such a text was put at the front of a buffer that was `before`: behind it the buffer is as it was.
+abbrev pub Laid : ℕ → List ℕ → List ℕ → List ℕ → Type 0
+Laid n before out text = (n ≡ length text) × (out ≡ sets before 0 text)
 
 -- ---- pieces of input, one after another
 
@@ -81,6 +87,17 @@ abbrev pub Concluded : List ℕ → Went → Went → Type 0
 Concluded text was went =
     ((has_failed was.state ≡ true) × (went ≡ was))
     ⊎ ((has_failed was.state ≡ false) × Took (length text) was.state was went)
+
+-- A whole run by its parts: the header, the loop, and the last text behind it, if nothing failed. (`Whole` and `Ran`,
+-- below, say what comes of it. They leave open how many bytes were taken where something failed; this says of a failed
+-- read that nothing was written behind it. Behind a failed write it leaves that open, too.)
+pub record Parted {S : Type 0} (after : After S) (text : Text S) (wants : S → Bool) (s t : S) (header last : List ℕ) (went : Went)
+    : Type 0 where
+  pub headed : Went
+  pub read : Went
+  pub first : Took (length header) GoesOn nothing_yet headed
+  pub loop : Looped after text wants s t headed read
+  pub end : Concluded last read went
 
 -- A whole run from the state s: a read or a write failed; or there are pieces, none of them empty, and as many bytes
 -- were taken as all that is printed of them has, from the header on.

@@ -1,5 +1,5 @@
 // The loop of every program that reads its input in pieces: the header, the pieces, the end.
-ghost use Rattle.std.specs.Prelude.{◌^◌, ◌<◌, ◌≡◌, ℕ, Bool, true, List, [], ◌∷◌, ◌++◌, length, take};
+ghost use Rattle.std.specs.Prelude.{◌^◌, ◌<◌, ◌≡◌, ◌||◌, ℕ, Bool, List, [], ◌∷◌, ◌++◌, length, take};
 ghost use Rattle.std.specs.Counts.{IsPrefixLen};
 ghost use Rattle.programs_flow.specs.Loops as loops;
 
@@ -26,6 +26,9 @@ pub trait Program<const N: usize, const M: usize> {
 
     ghost printed: { Self → Self.Stand → List (List ℕ) → List ℕ };
 
+    // In which pieces there is something to give a hint on.
+    ghost remarks: { Self → List ℕ → Bool };
+
     fn begin(&self) -> Self::Stand
         ensures { result ≡ first };
 
@@ -33,12 +36,12 @@ pub trait Program<const N: usize, const M: usize> {
         ensures { result ≡ wants self.now s };
 
     fn put_header(&self, out: &mut [u8; M]) -> usize
-        ensures { loops.Put result out.new header × IsPrefixLen result out.new × (length out.new ≡ M) };
+        ensures { loops.Laid result out.old out.new header × IsPrefixLen result out.new × (length out.new ≡ M) };
 
     // A look at the piece that was read, for a hint on standard error; nothing else comes of it. It answers whether the
     // hint is given: now, or before, and then it stays so.
     fn remark<E: Print>(&self, errors: &E, given: bool, piece: &[u8]) -> bool
-        ensures { given ≡ true → result ≡ true };
+        ensures { result ≡ (given || remarks self.now piece.now) };
 
     // The piece that was read is the first n bytes, or all of them.
     fn feed(
@@ -49,7 +52,7 @@ pub trait Program<const N: usize, const M: usize> {
         out: &mut [u8; M],
     ) -> (Self::Stand, usize)
         ensures { (result.0 ≡ after s (take n piece.now))
-            × loops.Put result.1 out.new (text self.now s (take n piece.now))
+            × loops.Laid result.1 out.old out.new (text self.now s (take n piece.now))
             × IsPrefixLen result.1 out.new × (length out.new ≡ M) };
 
     // What is printed at the end of the input. Where a read or a write has failed there is nothing more.
@@ -78,23 +81,23 @@ fn one_piece<const N: usize, const M: usize, P: Program<N, M>, R: Read, W: Write
     from: &mut R,
     output: &mut W,
     errors: &E,
-    s: P::Stand,
+    s: &mut P::Stand,
     was: Went,
-    given: bool,
+    given: &mut bool,
     piece: &mut [u8; N],
     out: &mut [u8; M],
-) -> (P::Stand, Went, bool)
-    ensures { loops.Turned P.after (P.text program.now) s result.0 was result.1 piece.new out.new }
+) -> Went
+    ensures { loops.Turned P.after (P.text program.now) s.old s.new was result piece.new out.new }
 {
     let came = read_piece(was, from, errors, piece);
     if !came.goes_on() {
-        return (s, came, given);
+        return came;
     }
     let n = came.brought();
-    let given = program.remark(errors, given, &piece[..n]);
-    let (behind, at) = program.feed(s, piece, n, out);
-    let wrote = write_whole(came, output, errors, &out[..at]);
-    (behind, wrote, given)
+    *given = program.remark(errors, *given, &piece[..n]);
+    let (behind, at) = program.feed(*s, piece, n, out);
+    *s = behind;
+    write_whole(came, output, errors, &out[..at])
 }
 
 // Nothing says that the input ends, so the turns are counted.
@@ -103,22 +106,24 @@ fn all_pieces<const N: usize, const M: usize, P: Program<N, M>, R: Read, W: Writ
     from: &mut R,
     output: &mut W,
     errors: &E,
+    s: &mut P::Stand,
     headed: Went,
     piece: &mut [u8; N],
     out: &mut [u8; M],
-) -> (P::Stand, Went)
-    ensures { loops.Looped P.after (P.text program.now) (P.wants program.now) P.first result.0 headed result.1 }
+) -> Went
+    ensures { loops.Looped P.after (P.text program.now) (P.wants program.now) s.old s.new headed result }
 {
-    let mut s = program.begin();
     let mut went = headed;
     let mut given = false;
     for _ in 0..u64::MAX {
-        if !went.goes_on() || !program.wants(s) {
+        if !went.goes_on() || !program.wants(*s) {
             break;
         }
-        (s, went, given) = one_piece(program, from, output, errors, s, went, given, piece, out);
+        went = one_piece(
+            program, from, output, errors, s, went, &mut given, piece, out,
+        );
     }
-    (s, went)
+    went
 }
 
 // The header, the pieces, the end. Where a read or a write has failed nothing more is written.
@@ -128,13 +133,18 @@ pub fn over_pieces<const N: usize, const M: usize, P: Program<N, M>, R: Read, W:
     output: &mut W,
     errors: &E,
 ) -> (P::Stand, Went)
-    ensures { loops.Ran P.after (P.wants program.now) P.first (λ ps. P.header ++ P.printed program.now P.first ps)
+    ensures ran { loops.Ran P.after (P.wants program.now) P.first (λ ps. P.header ++ P.printed program.now P.first ps)
         result.0 result.1 }
+    ensures parts { loops.Parted P.after (P.text program.now) (P.wants program.now) P.first result.0 P.header
+        (P.printed program.now result.0 []) result.1 }
 {
     let mut piece = [0u8; N];
     let mut out = [0u8; M];
     let head = program.put_header(&mut out);
     let headed = write_whole(Went::going(), output, errors, &out[..head]);
-    let (s, read) = all_pieces(program, from, output, errors, headed, &mut piece, &mut out);
+    let mut s = program.begin();
+    let read = all_pieces(
+        program, from, output, errors, &mut s, headed, &mut piece, &mut out,
+    );
     (s, program.conclude(output, errors, s, read, &mut out))
 }

@@ -2,7 +2,7 @@
 #![tactic(auto)]
 
 ghost use Rattle.std.specs.Prelude.{◌≡◌, [], length, refl};
-ghost use Rattle.std.proofs.Common.{rules};
+ghost use Rattle.std.proofs.Common.{rules, false};
 ghost use Rattle.judging.specs.Pieces.{at_first, fed, judged_in};
 ghost use Rattle.report_text.specs.Report.{report_room, report_text};
 ghost use Rattle.decimal.specs.Buffer.{InFront};
@@ -14,10 +14,11 @@ use programs_flow::{Program, Went, over_pieces, write_whole};
 use report::put_report;
 use std::io::{Print, Read, Write};
 
-// What it reads at a time, and the room for every report.
+// What it reads at a time. It prints nothing before the end, so it is lent no room: the report has its own, which is not
+// there while records are judged.
 const PIECE: usize = 65536;
 
-const LENT: usize = 512;
+const LENT: usize = 0;
 
 // There is room for the report of every judgement.
 fn put_judgement(j: Judgement, out: &mut [u8]) -> usize
@@ -44,6 +45,8 @@ impl Program<PIECE, LENT> for Judging {
     ghost text = { λ x. silent };
 
     ghost printed = { λ x j ps. report_text (judged_in j ps) };
+
+    ghost remarks = { λ x p. false };
 
     fn begin(&self) -> Judge {
         Judge::fresh()
@@ -79,12 +82,13 @@ impl Program<PIECE, LENT> for Judging {
         errors: &E,
         j: Judge,
         read: Went,
-        out: &mut [u8; LENT],
+        _out: &mut [u8; LENT],
     ) -> Went {
         if read.has_failed() {
             return read;
         }
-        let n = put_judgement(j.end(), out);
+        let mut out = [0u8; 512];
+        let n = put_judgement(j.end(), &mut out);
         write_whole(read, output, errors, &out[..n])
     }
 

@@ -12,7 +12,7 @@ use Rattle.programs_flow.specs.declared.State.{State}
 use Rattle.programs_flow.specs.declared.State.TheVariants.{GoesOn, Ended, ReadFailed, WriteFailed}
 use Rattle.programs_flow.specs.declared.Went.{Went}
 use Rattle.programs_flow.specs.Flow.{nothing_yet, has_failed, Took}
-use Rattle.programs_flow.specs.Loops.{Fed, Looped, Concluded, Over, behind, texts}
+use Rattle.programs_flow.specs.Loops.{Fed, Looped, Concluded, Parted, Over, behind, texts}
 use Rattle.programs_flow.proofs.Turns.{Running, one_turn, in_all}
 use Rattle.salvage_marks.specs.Pieces.{last_place}
 use Rattle.programs_salvage.specs.declared.Stand.{Stand}
@@ -56,8 +56,12 @@ module _ (x : Stand) (buf : List ℕ) (read went : Went) (l : Looped then both_o
       ∙ ap (λ (s : Between). length (end_of s.torn (length s.held) s.kept)) l.state
 
   pub finished : Salvaged went
-  finished = go (in_all then both_of always before_all (standing x buf) [] (end_of x.torn x.held x.kept) nothing_yet read went (inl (refl, refl)) l c)
+  finished = go (in_all then both_of always before_all (standing x buf) [] (end_of x.torn x.held x.kept) went parted)
     where
+      -- (the header is empty)
+      parted : Parted then both_of always before_all (standing x buf) [] (end_of x.torn x.held x.kept) went
+      parted = record { headed = nothing_yet; read = read; first = inl (refl, refl); loop = l; end = c }
+
       by_state : (k : State) → went.state ≡ k
           → went.sent ≡ 0 + (length (texts then both_of before_all l.pieces) + length (end_of x.torn x.held x.kept)) → Salvaged went
       by_state GoesOn e s = inr (inr e)

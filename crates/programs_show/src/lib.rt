@@ -4,6 +4,7 @@
 
 ghost use Rattle.std.specs.Prelude.{◌≡◌, refl, length};
 ghost use Rattle.std.proofs.Common.{rules};
+ghost use Rattle.rules.specs.Line.{among};
 ghost use Rattle.text.specs.Printed.{walk_header};
 ghost use Rattle.decimal.specs.Buffer.{InFront};
 ghost use Rattle.show_text.specs.Show as shows;
@@ -53,6 +54,8 @@ impl Program<PIECE, LENT> for Show {
     ghost text = { λ x. shows.text_for x.only };
 
     ghost printed = { λ x. shows.printed x.only };
+
+    ghost remarks = { λ x p. among p 13 };
 
     fn begin(&self) -> Showing {
         begin()

@@ -3,6 +3,7 @@
 
 ghost use Rattle.std.specs.Prelude.{◌≡◌, true, refl, ◌++◌, length};
 ghost use Rattle.std.proofs.Common.{rules};
+ghost use Rattle.rules.specs.Line.{among};
 ghost use Rattle.text.specs.Printed.{walk_header};
 ghost use Rattle.decimal.specs.Buffer.{InFront};
 ghost use Rattle.session_walk_text.specs.Walk.{at_first, text_for, walk_after, last_text, printed};
@@ -43,6 +44,8 @@ impl Program<PIECE, LENT> for Walking {
     ghost text = { λ x. text_for };
 
     ghost printed = { λ x. printed };
+
+    ghost remarks = { λ x p. among p 13 };
 
     fn begin(&self) -> Walk {
         begin()

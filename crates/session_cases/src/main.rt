@@ -5,11 +5,18 @@
 use std::fs::File;
 use std::io;
 
-// A program over the file of this name; whether there is such a file.
-fn ran<F: FnOnce(&mut File) -> u8>(rt: &HostRuntime, name: &str, program: F) -> io::Result<bool>
+// A program over the file of that number and kind; whether there is such a file. (Its name is made here, when it is this
+// file's turn: where memory runs out for a name, the files before it were run.)
+fn ran<F: FnOnce(&mut File) -> u8>(
+    rt: &HostRuntime,
+    i: u8,
+    kind: &str,
+    program: F,
+) -> io::Result<bool>
     requires { F.IsAlwaysCallable program }
 {
-    match File::open(rt, name) {
+    let name = format!(in rt.alloc(); "{i:02}.{kind}")?;
+    match File::open(rt, name.as_str()) {
         Ok(mut file) => {
             println!(rt; "file {name}")?;
             program(&mut file);
@@ -20,12 +27,10 @@ fn ran<F: FnOnce(&mut File) -> u8>(rt: &HostRuntime, name: &str, program: F) -> 
 }
 
 fn one_number(rt: &HostRuntime, i: u8) -> io::Result<bool> {
-    let walk = format!(in rt.alloc(); "{i:02}.walk")?;
-    let draw = format!(in rt.alloc(); "{i:02}.draw")?;
-    let walked = ran(rt, walk.as_str(), |file| {
+    let walked = ran(rt, i, "walk", |file| {
         programs_walk::run(file, &mut rt.stdout(), &rt.stderr())
     })?;
-    let drawn = ran(rt, draw.as_str(), |file| {
+    let drawn = ran(rt, i, "draw", |file| {
         programs_draw::run(file, &mut rt.stdout(), &rt.stderr())
     })?;
     Ok(walked | drawn)

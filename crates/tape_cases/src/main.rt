@@ -33,9 +33,18 @@ fn number(d: &[u8], from: usize) -> u64
     u64::from_le_bytes(array::from_fn(|i| byte(d, from + i)))
 }
 
+// What is written is written in small pieces, each number and each blank by itself: where a write fails, those before it
+// are out.
+fn field(rt: &impl Print, n: u64) -> io::Result<()> {
+    print!(rt; " ")?;
+    print!(rt; "{n}")
+}
+
 fn show_record(rt: &impl Print, r: Record) -> io::Result<()> {
-    print!(rt; " {} {} {}", r.op, r.a, r.b)?;
-    print!(rt; " {} {} {} {}", r.code, r.running, r.released, r.value)
+    for n in [r.op, r.a, r.b, r.code, r.running, r.released] {
+        field(rt, u64::from(n))?;
+    }
+    field(rt, r.value)
 }
 
 fn show(rt: &impl Print, read: Result<Option<Record>, Refusal>) -> io::Result<()> {
@@ -45,20 +54,41 @@ fn show(rt: &impl Print, read: Result<Option<Record>, Refusal>) -> io::Result<()
             show_record(rt, r)
         }
         Ok(None) => print!(rt; "end"),
-        Err(refusal) => print!(rt; "refused {}", refusal.number()),
+        Err(refusal) => {
+            print!(rt; "refused")?;
+            field(rt, u64::from(refusal.number()))
+        }
     }
 }
 
 // Writes what a reader answers at a place: place, answer, number, part, next place.
 fn answer(rt: &impl Print, tape: &[u8], at: usize) -> io::Result<()> {
-    print!(rt; "{at}: ")?;
+    place(rt, at)?;
     show(
         rt,
         tape::read_at(tape, at).map(|found| found.map(|(r, _)| r)),
     )?;
-    print!(rt; ", code {}, part ", tape::code_at(tape, at))?;
-    hex(rt, tape::part_at(tape, at))?;
-    println!(rt; ", next {}", tape::next_at(tape, at))
+    code_and_part(rt, tape::code_at(tape, at), tape::part_at(tape, at))?;
+    next_place(rt, tape::next_at(tape, at))
+}
+
+// The parts of such a line.
+fn place(rt: &impl Print, at: usize) -> io::Result<()> {
+    print!(rt; "{at}")?;
+    print!(rt; ": ")
+}
+
+fn code_and_part(rt: &impl Print, code: u8, part: &[u8]) -> io::Result<()> {
+    print!(rt; ", code")?;
+    field(rt, u64::from(code))?;
+    print!(rt; ", part ")?;
+    hex(rt, part)
+}
+
+fn next_place(rt: &impl Print, next: usize) -> io::Result<()> {
+    print!(rt; ", next ")?;
+    print!(rt; "{next}")?;
+    println!(rt)
 }
 
 // The record that a part holds: none where it is empty.
@@ -71,11 +101,10 @@ fn held(part: &[u8]) -> Option<Record> {
 
 // Writes what a reader has answered, from that alone: its place, its part and the number, its next place.
 fn told(rt: &impl Print, at: usize, handed: Result<&[u8], Refusal>, next: usize) -> io::Result<()> {
-    print!(rt; "{at}: ")?;
+    place(rt, at)?;
     show(rt, handed.map(|part| held(part)))?;
-    print!(rt; ", code {}, part ", code(handed.map(|_| ())))?;
-    hex(rt, handed.unwrap_or(&[]))?;
-    println!(rt; ", next {next}")
+    code_and_part(rt, code(handed.map(|_| ())), handed.unwrap_or(&[]))?;
+    next_place(rt, next)
 }
 
 // A whole tape by one reader, from its opening until its place is kept.
@@ -97,7 +126,9 @@ fn write_into(rt: &impl Print, out: &mut [u8], at: usize, r: Record) -> io::Resu
     let checked = tape::write_at(out, at, r);
     print!(rt; "write")?;
     show_record(rt, r)?;
-    print!(rt; ", code {}, buffer ", code(checked))?;
+    print!(rt; ", code")?;
+    field(rt, u64::from(code(checked)))?;
+    print!(rt; ", buffer ")?;
     hex(rt, out)?;
     println!(rt)?;
     answer(rt, out, at)

@@ -8,6 +8,6 @@ use Rattle.programs_judge.proofs.work.Goals as goal
 
 pub returns : goal.returns
 returns g c =
-    let r = c.over_pieces.ensures in
+    let r = c.over_pieces.ensures.ran in
     let j = c.end.ensures ∙ ap ended r.2 ∙ sym (judged_behind r.0 at_first) in
     (r.0, r.1, j, ⊎_elim inl (λ x. inr (x.0 ∙ ap (λ (k : Judgement). length (report_text k)) (sym j), x.1)) r.3)
