@@ -34,28 +34,39 @@ fn number(d: &[u8], from: usize) -> u64
 }
 
 // What is written is written in small pieces, each number and each blank by itself: where a write fails, those before it
-// are out.
+// are out. (Two functions: what prints has a text of two kilobytes in its stack, and one call stands there at a time.)
+fn text(rt: &impl Print, s: &str) -> io::Result<()> {
+    rt.print(s)
+}
+
+fn decimal(rt: &impl Print, n: u64) -> io::Result<()> {
+    rt.print(n)
+}
+
 fn field(rt: &impl Print, n: u64) -> io::Result<()> {
-    print!(rt; " ")?;
-    print!(rt; "{n}")
+    text(rt, " ")?;
+    decimal(rt, n)
 }
 
 fn show_record(rt: &impl Print, r: Record) -> io::Result<()> {
-    for n in [r.op, r.a, r.b, r.code, r.running, r.released] {
-        field(rt, u64::from(n))?;
-    }
+    field(rt, u64::from(r.op))?;
+    field(rt, u64::from(r.a))?;
+    field(rt, u64::from(r.b))?;
+    field(rt, u64::from(r.code))?;
+    field(rt, u64::from(r.running))?;
+    field(rt, u64::from(r.released))?;
     field(rt, r.value)
 }
 
 fn show(rt: &impl Print, read: Result<Option<Record>, Refusal>) -> io::Result<()> {
     match read {
         Ok(Some(r)) => {
-            print!(rt; "record")?;
+            text(rt, "record")?;
             show_record(rt, r)
         }
-        Ok(None) => print!(rt; "end"),
+        Ok(None) => text(rt, "end"),
         Err(refusal) => {
-            print!(rt; "refused")?;
+            text(rt, "refused")?;
             field(rt, u64::from(refusal.number()))
         }
     }
@@ -74,21 +85,21 @@ fn answer(rt: &impl Print, tape: &[u8], at: usize) -> io::Result<()> {
 
 // The parts of such a line.
 fn place(rt: &impl Print, at: usize) -> io::Result<()> {
-    print!(rt; "{at}")?;
-    print!(rt; ": ")
+    decimal(rt, at as u64)?;
+    text(rt, ": ")
 }
 
 fn code_and_part(rt: &impl Print, code: u8, part: &[u8]) -> io::Result<()> {
-    print!(rt; ", code")?;
+    text(rt, ", code")?;
     field(rt, u64::from(code))?;
-    print!(rt; ", part ")?;
+    text(rt, ", part ")?;
     hex(rt, part)
 }
 
 fn next_place(rt: &impl Print, next: usize) -> io::Result<()> {
-    print!(rt; ", next ")?;
-    print!(rt; "{next}")?;
-    println!(rt)
+    text(rt, ", next ")?;
+    decimal(rt, next as u64)?;
+    text(rt, "\n")
 }
 
 // The record that a part holds: none where it is empty.
@@ -124,13 +135,13 @@ fn tape_case(rt: &impl Print, tape: &[u8]) -> io::Result<()> {
 // A record into a buffer: the code, the buffer after it, and what a reader then answers there.
 fn write_into(rt: &impl Print, out: &mut [u8], at: usize, r: Record) -> io::Result<()> {
     let checked = tape::write_at(out, at, r);
-    print!(rt; "write")?;
+    text(rt, "write")?;
     show_record(rt, r)?;
-    print!(rt; ", code")?;
+    text(rt, ", code")?;
     field(rt, u64::from(code(checked)))?;
-    print!(rt; ", buffer ")?;
+    text(rt, ", buffer ")?;
     hex(rt, out)?;
-    println!(rt)?;
+    text(rt, "\n")?;
     answer(rt, out, at)
 }
 
