@@ -39,10 +39,18 @@ module _ (place : ℕ) (buf : List ℕ) (z : place ≡ 0) (o : 16 ≤ length buf
   unfolding head_size headed
   head_none e = rw (z, le-leb 16 (length buf) o, ← e)
 
+-- it is one record long, or there is none
+pub one_or_none : (place : ℕ) (buf : List ℕ) (size : ℕ) → size ≡ head_size place buf → (size ≤ 16) × (size % 16 ≡ 0)
+unfolding head_size
+one_or_none place buf size e = go (eqb place 0 && headed buf) e
+  where
+    go : (t : Bool) → size ≡ cond t 16 0 → (size ≤ 16) × (size % 16 ≡ 0)
+    go true e = rw e (omega arith, refl)
+    go false e = rw e (omega arith, refl)
+
 -- ---- the start of a pass
 
 pub record Starts (place begin size : ℕ) (buf : List ℕ) : Type 0 where
-  pub one : (size ≤ 16) × (size % 16 ≡ 0)
   pub within : size ≤ length buf
   pub marks : length (marked_at place buf) ≡ size + length (to_go buf size)
   pub begins : begun begin place (marked_at place buf) ≡ begun (begin + size) (place + size) (to_go buf size)
@@ -68,7 +76,6 @@ module _ (place begin : ℕ) (buf : List ℕ) (u : begin ≤ place) where
       let o : 16 ≤ length buf = makes_long true buf h.0 in
       let D : marked_at place buf ≡ replicate 16 true ++ to_go buf 16 = ap (λ (x : Bool). ahead x zero buf) (both_true e).0 ∙ ahead_keep true buf h.0 in
       record {
-        one = (omega arith, refl);
         within = o;
         marks = ap (λ (x : List Bool). length x) D ∙ length-append (replicate 16 true) (to_go buf 16);
         begins = ap (begun begin place) D ∙ rw (b, z) (begun_trues 15 0 0 (to_go buf 16));
@@ -83,7 +90,6 @@ module _ (place begin : ℕ) (buf : List ℕ) (u : begin ≤ place) where
       let x : begin + 0 ≡ begin = omega arith in
       let y : place + 0 ≡ place = omega arith in
       record {
-        one = (omega arith, refl);
         within = omega arith;
         marks = ap (λ (x : List Bool). length x) D ∙ omega arith;
         begins = rw (x, y) (ap (begun begin place) D);
