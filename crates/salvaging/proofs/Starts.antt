@@ -39,15 +39,6 @@ module _ (place : ℕ) (buf : List ℕ) (z : place ≡ 0) (o : 16 ≤ length buf
   unfolding head_size headed
   head_none e = rw (z, le-leb 16 (length buf) o, ← e)
 
--- it is one record long, or there is none
-pub one_or_none : (place : ℕ) (buf : List ℕ) (size : ℕ) → size ≡ head_size place buf → (size ≤ 16) × (size % 16 ≡ 0)
-unfolding head_size
-one_or_none place buf size e = go (eqb place 0 && headed buf) e
-  where
-    go : (t : Bool) → size ≡ cond t 16 0 → (size ≤ 16) × (size % 16 ≡ 0)
-    go true e = rw e (omega arith, refl)
-    go false e = rw e (omega arith, refl)
-
 -- ---- the start of a pass
 
 pub record Starts (place begin size : ℕ) (buf : List ℕ) : Type 0 where
@@ -57,6 +48,11 @@ pub record Starts (place begin size : ℕ) (buf : List ℕ) : Type 0 where
   pub bytes : pick (marked_at place buf) buf ≡ take size buf ++ pick (to_go buf size) (drop size buf)
   pub stretches : ended begin place (marked_at place buf) ≡ ended (begin + size) (place + size) (to_go buf size)
   pub header : eqb size 16 ≡ (eqb place 0 && headed buf)
+
+-- the same behind a header, which is one record long, or none
+pub record HeaderStarts (place begin size : ℕ) (buf : List ℕ) : Type 0 where
+  pub one : (size ≤ 16) × (size % 16 ≡ 0)
+  pub starts : Starts place begin size buf
 
 plain : (place : ℕ) (buf : List ℕ) → (eqb place 0 && headed buf) ≡ false → marked_at place buf ≡ ahead false zero buf
 unfolding ahead
@@ -98,13 +94,16 @@ module _ (place begin : ℕ) (buf : List ℕ) (u : begin ≤ place) where
         header = sym e;
       }
 
-  pub starts : (size : ℕ) → size ≡ head_size place buf → Starts place begin size buf
+  pub header_starts : (size : ℕ) → size ≡ head_size place buf → HeaderStarts place begin size buf
   unfolding head_size
-  starts size e = go (eqb place 0 && headed buf) refl e
+  header_starts size e = go (eqb place 0 && headed buf) refl e
     where
-      go : (t : Bool) → (eqb place 0 && headed buf) ≡ t → size ≡ cond t 16 0 → Starts place begin size buf
-      go true t e = rw e (behind_header t)
-      go false t e = rw e (at_once t)
+      go : (t : Bool) → (eqb place 0 && headed buf) ≡ t → size ≡ cond t 16 0 → HeaderStarts place begin size buf
+      go true t e = rw e (record { one = (omega arith, refl); starts = behind_header t })
+      go false t e = rw e (record { one = (omega arith, refl); starts = at_once t })
+
+  pub starts : (size : ℕ) → size ≡ head_size place buf → Starts place begin size buf
+  starts size e = (header_starts size e).starts
 
 -- ---- what follows of it
 

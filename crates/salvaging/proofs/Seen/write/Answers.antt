@@ -9,16 +9,15 @@ use Rattle.salvage_marks.specs.declared.Stretch.{Stretch}
 use Rattle.salvage_marks.specs.Torn.{pick, cells}
 use Rattle.salvaging.specs.declared.Passed.{Passed}
 use Rattle.salvaging.specs.Walk.{to_go}
-use Rattle.salvaging.proofs.Starts.{one_or_none, starts, start_passed, start_out}
+use Rattle.salvaging.proofs.Starts.{header_starts, starts, start_passed, start_out}
 use Rattle.salvaging.proofs.Seen.write.Goals as goal
 
 pub keep_head-requires : goal.keep_head-requires
 keep_head-requires c =
     let a = c.args.self.now in
-    let s = starts a.place a.begin a.buf.now a.opened a.head a.headed in
-    let e = ap (λ (x : Passed). x.kept) (start_passed a.place a.begin a.head a.buf.now s) in
-    let o = one_or_none a.place a.buf.now a.head a.headed in
-    (o.0, o.1, omega (arith, e, c.requires.0), s.within)
+    let h = header_starts a.place a.begin a.buf.now a.opened a.head a.headed in
+    let e = ap (λ (x : Passed). x.kept) (start_passed a.place a.begin a.head a.buf.now h.starts) in
+    (h.one.0, h.one.1, omega (arith, e, c.requires.0), h.starts.within)
 
 pub returns-clause-out : goal.returns-clause-out
 returns-clause-out c =
